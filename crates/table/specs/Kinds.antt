@@ -1,5 +1,6 @@
 -- The kinds of symbol: which leaves and symbols each allows, and which symbols pass a leaf. Assumes nothing.
-use mathlib.Core.Bool.{Bool, _&&_, _||_}
+use mathlib.Core.Path.{_≡_}
+use mathlib.Core.Bool.{Bool, true, false, _&&_, _||_}
 use Prim.Native.Nat.{ℕ, _/_}
 use lib.Dec.{leb, eqb}
 use Rattle.table.specs.declared.node.Leaf.{Leaf}
@@ -40,3 +41,10 @@ touch-passing l t = (eqb (l .tag) 3 || eqb (l .tag) (t .source)) && within l (t 
 
 abbrev pub touch-any : Leaf
 touch-any = record { tag = 3; low = 0; high = 999_999 }
+
+-- of pad touches, a pad leaf from 25 to 60 seconds lets gaps of 25.000 to 60.009 seconds pass
+abbrev pub pad-passing : ℕ → Bool
+pad-passing gap = touch-passing (record { tag = 0; low = 2_500; high = 6_000 }) (record { source = 0; gap = gap })
+
+abbrev pub Pad-bounds : Type 0
+Pad-bounds = (pad-passing 24_999 ≡ false) × (pad-passing 25_000 ≡ true) × (pad-passing 60_009 ≡ true) × (pad-passing 60_010 ≡ false)

@@ -73,13 +73,19 @@ abbrev pub or-else : Option Refusal → Option Refusal → Option Refusal
 or-else (Some r) q = Some r
 or-else None q = q
 
+abbrev pub count-refusal : List Node → Option Refusal
+count-refusal ns = cond (leb 1 (length ns) && leb (length ns) 512) None (Some (table-refusal 4 (length ns)))
+
+-- the last node's operands and the node itself are all the nodes
+abbrev pub last-refusal : List Node → Option Refusal
+last-refusal ns = cond (eqb (size-at ns (length ns - 1)) (length ns)) None (Some (table-refusal 7 (length ns - 1)))
+
 -- what the judge answers: the count, then node by node, then the last size against the length
 abbrev pub verdict : (Leaf → Bool) → List Node → Option Refusal
 verdict admitted ns =
-    cond (leb 1 (length ns) && leb (length ns) 512)
+    or-else (count-refusal ns)
     (or-else (first-wrong (wrong admitted ns) (length ns) 0)
-    (cond (eqb (size-at ns (length ns - 1)) (length ns)) None (Some (table-refusal 7 (length ns - 1)))))
-    (Some (table-refusal 4 (length ns)))
+    (last-refusal ns))
 
 -- every leaf of the tree is admitted
 abbrev pub Leaves : (Leaf → Bool) → Tree → Type 0

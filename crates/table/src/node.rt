@@ -23,6 +23,16 @@ pub struct Node {
     pub price: u32,
 }
 
+// The empty pattern's only node.
+pub const BLANK: Node = Node {
+    kind: EMPTY,
+    tag: 0,
+    size: 1,
+    low: 0,
+    high: 0,
+    price: 0,
+};
+
 // Which symbols a leaf lets pass. The price is no part of it, so that no such answer can depend on the price.
 #[derive(Clone, Copy, PartialEq, Eq, Debug)]
 pub struct Leaf {

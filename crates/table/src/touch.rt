@@ -1,5 +1,8 @@
 // Kind 2: the touches of a timing pad, a button or the start signal.
-ghost use Rattle.table.specs.Kinds.{touch-number, touch-admitted, touch-allowed, touch-passing, touch-any};
+ghost use mathlib.Core.Bool.{false, true};
+ghost use mathlib.Core.List.{[], _∷_};
+ghost use mathlib.Core.Path.{_≡_};
+ghost use Rattle.table.specs.Kinds.{touch-number, touch-admitted, touch-allowed, touch-passing, touch-any, Pad-bounds};
 use crate::node::Leaf;
 use crate::symbol::Symbol;
 
@@ -48,4 +51,30 @@ pub impl Symbol for Touch as TouchSymbol {
             high: 999_999,
         }
     }
+}
+
+// A leaf's bounds count hundredths and a gap counts thousandths, so a gap's last digit is cut off: a pad leaf from
+// 2,500 to 6,000 lets pad touches with gaps of 25,000 and 60,009 pass, and those of 24,999 and 60,010 not.
+pub fn pad_leaf_bounds() -> [bool; 4]
+    ensures answers { λ r. ⌜ r ≡ false ∷ true ∷ true ∷ false ∷ [] ⌝ }
+    ensures facts { λ _. ⌜ Pad-bounds ⌝ }
+{
+    let leaf = Leaf {
+        tag: 0,
+        low: 2_500,
+        high: 6_000,
+    };
+    [
+        pad_touch(24_999).passes(leaf),
+        pad_touch(25_000).passes(leaf),
+        pad_touch(60_009).passes(leaf),
+        pad_touch(60_010).passes(leaf),
+    ]
+}
+
+fn pad_touch(gap: u32) -> Touch
+    ensures source { λ r. ⌜ r .source ≡ 0 ⌝ }
+    ensures gap { λ r. ⌜ r .gap ≡ gap ⌝ }
+{
+    Touch { source: 0, gap }
 }

@@ -1,17 +1,20 @@
 // The judge: which lists of nodes are checked tables, and what is wrong with the others.
+ghost use mathlib.Core.Bool.{false, true};
 ghost use mathlib.Core.Path.{_≡_};
 ghost use mathlib.Core.List.{[], _∷_};
-ghost use lib.ListN.{length};
+ghost use lib.ListN.{length, take};
 ghost use Prim.Native.Nat.{_<_, _≤_};
 ghost use Rattle.table.specs.Content.{content, held, tree};
 ghost use Rattle.table.specs.Faults.{answered};
-ghost use Rattle.table.specs.Rules.{node-refusal, verdict, wrong, Writes};
-ghost use Rattle.table.specs.Tree.{inner, postfix};
+ghost use Rattle.table.specs.Rules.{count-refusal, due, fed, first-wrong, last-refusal, node-at, node-refusal, verdict, wrong, Writes};
+ghost use Rattle.table.specs.Tree.{inner, postfix, tree-of, Tree};
+ghost use Rattle.std.specs.Options.{Cases as BySome};
 ghost use Rattle.std.specs.Results.{Cases};
+ghost use Rattle.std.specs.Vec.{made};
 ghost use Rattle.std.specs.declared.option.Option.the-variants.{None};
 use crate::fault::TableFault;
+use crate::node::BLANK;
 use crate::node::EITHER;
-use crate::node::EMPTY;
 use crate::node::LEAF;
 use crate::node::Leaf;
 use crate::node::Node;
@@ -20,15 +23,6 @@ use crate::node::THEN;
 use crate::symbol::Symbol;
 use crate::table::MOST_NODES;
 use crate::table::Table;
-
-const BLANK: Node = Node {
-    kind: EMPTY,
-    tag: 0,
-    size: 1,
-    low: 0,
-    high: 0,
-    price: 0,
-};
 
 impl Table {
     // A table of one empty node, for bytes.
@@ -48,25 +42,24 @@ impl Table {
         ensures answer { λ r. ⌜ answered r ≡ verdict (S·Symbol .admitted) (now (nodes .entry)) ⌝ }
         ensures means { λ r. ⌜ ((answered r ≡ None → Writes (S·Symbol .admitted) (now (nodes .entry))) × (Writes (S·Symbol .admitted) (now (nodes .entry)) → answered r ≡ None)) ⌝ }
         ensures after { λ r. ⌜ Cases r (λ _. content (now (self .exit)) ≡ held (S·Symbol .number) (now (nodes .entry))) (λ _. now (self .exit) ≡ now (self .entry)) ⌝ }
+        ensures alone { λ r. ⌜ made r (λ _. (t : Tree) → postfix t ≡ now (nodes .entry) → t ≡ tree (now (self .exit))) ⌝ }
     {
-        let count = nodes.len();
-        if count == 0 || count > MOST_NODES {
-            return Err(TableFault::NodeCount(count));
-        }
-        for at in 0..count {
-            judge_node::<S>(nodes, at)?;
-        }
-        if nodes[count - 1].size as usize != count {
-            return Err(TableFault::WrongSize(count - 1));
-        }
-        let mut stored = [BLANK; 512];
-        stored[0..count].copy_from_slice(nodes);
-        *self = Table {
-            nodes: stored,
-            len: count,
-            kind: S::kind(),
-        };
+        judge_list::<S>(nodes)?;
+        *self = Table::holding(nodes, S::kind());
         Ok(())
+    }
+
+    // A table of nodes that are judged already.
+    fn holding(nodes: &[Node], kind: u8) -> Table
+        requires few { ⌜ length (now nodes) ≤ 512 ⌝ }
+        requires whole { ⌜ postfix (tree-of (now nodes)) ≡ now nodes ⌝ }
+        ensures { λ r. ⌜ content r ≡ held kind (now (nodes .entry)) ⌝ }
+    {
+        Table {
+            nodes: padded(nodes),
+            len: nodes.len(),
+            kind,
+        }
     }
 
     // The number of the kind that the table was judged for.
@@ -76,7 +69,7 @@ impl Table {
         self.kind
     }
 
-    // The table's nodes.
+    // The table's nodes: what the table's tree writes out.
     pub fn nodes(&self) -> &[Node]
         ensures value { λ r. ⌜ now r ≡ content (now (self .entry)) .nodes ⌝ }
         ensures whole { λ r. ⌜ postfix (tree (now (self .entry))) ≡ now r ⌝ }
@@ -84,6 +77,60 @@ impl Table {
     {
         &self.nodes[0..self.len]
     }
+}
+
+// The nodes at the front of a whole array.
+fn padded(nodes: &[Node]) -> [Node; 512]
+    requires { ⌜ length (now nodes) ≤ 512 ⌝ }
+    ensures { λ r. ⌜ take (length (now (nodes .entry))) r ≡ now (nodes .entry) ⌝ }
+{
+    let mut stored = [BLANK; 512];
+    stored[0..nodes.len()].copy_from_slice(nodes);
+    stored
+}
+
+// The whole list, with what its answer means.
+fn judge_list<S: Symbol>(nodes: &[Node]) -> Result<(), TableFault>
+    ensures answer { λ r. ⌜ answered r ≡ verdict (S·Symbol .admitted) (now (nodes .entry)) ⌝ }
+    ensures means { λ r. ⌜ ((answered r ≡ None → Writes (S·Symbol .admitted) (now (nodes .entry))) × (Writes (S·Symbol .admitted) (now (nodes .entry)) → answered r ≡ None)) ⌝ }
+    ensures whole { λ r. ⌜ made r (λ _. (length (now (nodes .entry)) ≤ 512) × (postfix (tree-of (now (nodes .entry))) ≡ now (nodes .entry))) ⌝ }
+    ensures alone { λ _. ⌜ ((t : Tree) → postfix t ≡ now (nodes .entry) → t ≡ tree-of (now (nodes .entry))) ⌝ }
+{
+    judge_count(nodes)?;
+    judge_nodes::<S>(nodes)?;
+    judge_last(nodes)
+}
+
+fn judge_count(nodes: &[Node]) -> Result<(), TableFault>
+    ensures { λ r. ⌜ answered r ≡ count-refusal (now (nodes .entry)) ⌝ }
+{
+    let count = nodes.len();
+    if count == 0 || count > MOST_NODES {
+        return Err(TableFault::NodeCount(count));
+    }
+    Ok(())
+}
+
+// The nodes one by one, up to the first that is wrong.
+fn judge_nodes<S: Symbol>(nodes: &[Node]) -> Result<(), TableFault>
+    ensures { λ r. ⌜ answered r ≡ first-wrong (wrong (S·Symbol .admitted) (now (nodes .entry))) (length (now (nodes .entry))) 0 ⌝ }
+{
+    for at in 0..nodes.len() {
+        judge_node::<S>(nodes, at)?;
+    }
+    Ok(())
+}
+
+// Whether the last node has all the others below it.
+fn judge_last(nodes: &[Node]) -> Result<(), TableFault>
+    requires { ⌜ 1 ≤ length (now nodes) ⌝ }
+    ensures { λ r. ⌜ answered r ≡ last-refusal (now (nodes .entry)) ⌝ }
+{
+    let last = nodes.len() - 1;
+    if nodes[last].size as usize != nodes.len() {
+        return Err(TableFault::WrongSize(last));
+    }
+    Ok(())
 }
 
 // One node against those before it.
@@ -115,7 +162,9 @@ fn judge_node<S: Symbol>(nodes: &[Node], at: usize) -> Result<(), TableFault>
 
 // The size that a node of known kind must have, or none where an operand is missing.
 fn due_size(nodes: &[Node], at: usize) -> Option<usize>
-    requires { ⌜ at < length (now nodes) ⌝ }
+    requires within { ⌜ at < length (now nodes) ⌝ }
+    requires known { ⌜ node-at (now nodes) at .kind ≤ 4 ⌝ }
+    ensures { λ r. ⌜ BySome r (fed (now (nodes .entry)) at (node-at (now (nodes .entry)) at .kind) ≡ false) (λ d. (fed (now (nodes .entry)) at (node-at (now (nodes .entry)) at .kind) ≡ true) × (d ≡ due (now (nodes .entry)) at (node-at (now (nodes .entry)) at .kind))) ⌝ }
 {
     match nodes[at].kind {
         EITHER | THEN => {

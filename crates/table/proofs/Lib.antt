@@ -1,0 +1,3 @@
+pub mod Postfix
+pub mod Judged
+pub mod Verdicts

@@ -1,0 +1,14 @@
+pub mod Bytes
+pub mod Follows
+pub mod Viable
+pub mod Run
+pub mod Complete
+pub mod Verdicts
+pub mod Outcomes
+pub mod Laying
+pub mod Exits
+pub mod Atoms
+pub mod Loops
+pub mod Groups
+pub mod Unique
+pub mod Wholes
