@@ -1,0 +1,6 @@
+use Rattle.scale.specs.Counts.{count-path}
+use mathlib.Core.Path.{refl}
+use Rattle.scale.proofs.count.ops.CountScale.unit.Needs as need
+
+pub returns : need.returns
+returns c = count-path refl

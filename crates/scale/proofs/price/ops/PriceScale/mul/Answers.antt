@@ -1,0 +1,5 @@
+use Rattle.scale.specs.Prices.{price-path}
+use Rattle.scale.proofs.price.ops.PriceScale.mul.Needs as need
+
+pub returns : need.returns
+returns c = price-path (c .together .ensures)

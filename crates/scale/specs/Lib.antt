@@ -1,0 +1,9 @@
+pub mod Semiring
+pub mod Yes
+pub mod YesLaws
+pub mod Counts
+pub mod CountLaws
+pub mod Prices
+pub mod PriceLaws
+pub mod Pairs
+pub mod PairLaws
