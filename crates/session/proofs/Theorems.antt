@@ -1,10 +1,13 @@
 -- The statements about readings and weights, put together from their parts. Assumes nothing.
-use mathlib.Core.Path.{_≡_, refl, ap}
-use mathlib.Core.Bool.{Bool}
+use mathlib.Core.Path.{_≡_, refl, ap, _∙_}
+use mathlib.Core.Bool.{Bool, true}
+use mathlib.Core.List.{[], _∷_}
 use native.Mathlib.Omega.{arith}
 use Prim.Native.Nat.{ℕ}
 use Rattle.table.specs.declared.node.Leaf.{Leaf}
 use Rattle.scale.specs.Semiring.{Ops}
+use Rattle.scale.specs.Pairs.{pair}
+use Rattle.session.specs.Weights.{weight}
 use Rattle.session.specs.Theorems.{Listed, Yes-tells-reading, Count-numbers-readings, Price-least-of-readings, Pair-weighs-each}
 use Rattle.session.specs.Strays.{Range, product-of-sum, sum-of-products, Ranges-stray, New-mark-strays}
 use Rattle.session.proofs.Listing.{listed-reads, reads-listed, listed-once}
@@ -18,30 +21,30 @@ module _ {S : Type 0} (passing : Leaf → S → Bool) where
     none-twice = listed-once passing;
   }
 
-  pub yes-tells-reading : Yes-tells-reading passing
+  pub yes-tells-reading : Yes-tells-reading passing true
   yes-tells-reading = record {
-    true-is-read = λ t w. yes-exactly passing t w .0;
-    read-is-true = λ t w. yes-exactly passing t w .1;
+    accepted-is-read = λ t w. yes-exactly passing t w .0;
+    read-is-accepted = λ t w. yes-exactly passing t w .1;
   }
 
-  pub count-numbers-readings : Count-numbers-readings passing
+  pub count-numbers-readings : Count-numbers-readings passing 4_294_967_295
   count-numbers-readings = record {
     number = count-exactly passing;
     one-is-single = one-exactly passing;
     single-is-one = exactly-one passing;
   }
 
-  pub price-least-of-readings : Price-least-of-readings passing
+  pub price-least-of-readings : Price-least-of-readings passing 65_535
   price-least-of-readings = least-exactly passing
 
-pub pair-weighs-each : {V W S : Type 0} (a : Ops V) (b : Ops W) (passing : Leaf → S → Bool) → Pair-weighs-each a b passing
-pair-weighs-each a b passing = pair-both a b passing
+pub pair-weighs-each : {V W S : Type 0} (a : Ops V) (b : Ops W) (passing : Leaf → S → Bool) (x : V) (y : W) → Pair-weighs-each a b passing x y (pair x y)
+pair-weighs-each a b passing x y t w l r = pair-both a b passing t w ∙ ap (λ u. pair u (weight b passing t w)) l ∙ ap (pair x) r
 
-pub ranges-stray : Ranges-stray
-ranges-stray = record { one-end = refl; other-end = refl; not-distributed = apart }
+pub ranges-stray : Ranges-stray (2 ∷ 5 ∷ [])
+ranges-stray = record { are = refl; not-distributed = apart }
   where
     apart : product-of-sum ≡ sum-of-products → ⊥
     apart e = let k : _≡_ {A = ℕ} 2 5 = ap (λ (x : Range). x .stop) e in omega arith
 
-pub new-mark-strays : New-mark-strays
-new-mark-strays = record { by-readings = refl; by-mark-before = refl; by-new-mark = refl }
+pub new-mark-strays : New-mark-strays (0 ∷ 0 ∷ 1 ∷ [])
+new-mark-strays = refl

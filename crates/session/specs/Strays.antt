@@ -40,9 +40,8 @@ product-of-sum = range-product (range 3 4) (range-sum (range 1 2) (range 2 5))
 abbrev pub sum-of-products : Range
 sum-of-products = range-sum (range-product (range 3 4) (range 1 2)) (range-product (range 3 4) (range 2 5))
 
-pub record Ranges-stray : Type 0 where
-  pub one-end : product-of-sum .stop ≡ 2
-  pub other-end : sum-of-products .stop ≡ 5
+pub record Ranges-stray (ends : List ℕ) : Type 0 where
+  pub are : product-of-sum .stop ∷ sum-of-products .stop ∷ [] ≡ ends
   pub not-distributed : product-of-sum ≡ sum-of-products → ⊥
 
 -- a then whose right operand takes the left's mark of the same symbol: the symbol is read twice
@@ -59,8 +58,15 @@ then-last a b h k = count-ops .plus (count-ops .times (last-weight count-ops byt
 abbrev pub one-a : List (Taken Count ℕ)
 one-a = to-root count-ops byte-passing (letter-a ∷ [])
 
--- aa after one a: no reading has ended, but by the new mark one has
-pub record New-mark-strays : Type 0 where
-  pub by-readings : last-weight count-ops byte-passing (then (byte letter-a) (byte letter-a)) one-a .value ≡ 0
-  pub by-mark-before : then-last (byte letter-a) (byte letter-a) one-a (to-right count-ops byte-passing (byte letter-a) one-a) ≡ 0
-  pub by-new-mark : then-last (byte letter-a) (byte letter-a) one-a (to-right-new (byte letter-a) one-a) ≡ 1
+-- aa after one a: by the readings, by the mark from before the symbol, and by the new mark
+abbrev pub by-readings : ℕ
+by-readings = last-weight count-ops byte-passing (then (byte letter-a) (byte letter-a)) one-a .value
+
+abbrev pub by-mark-before : ℕ
+by-mark-before = then-last (byte letter-a) (byte letter-a) one-a (to-right count-ops byte-passing (byte letter-a) one-a)
+
+abbrev pub by-new-mark : ℕ
+by-new-mark = then-last (byte letter-a) (byte letter-a) one-a (to-right-new (byte letter-a) one-a)
+
+abbrev pub New-mark-strays : List ℕ → Type 0
+New-mark-strays counts = by-readings ∷ by-mark-before ∷ by-new-mark ∷ [] ≡ counts

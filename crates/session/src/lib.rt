@@ -3,11 +3,10 @@ mod marks;
 mod readings;
 
 pub use marks::WEIGHTS_PER_NODE;
-pub use readings::count_is_number_of_readings;
-pub use readings::new_mark_strays;
-pub use readings::pair_weighs_both;
-pub use readings::price_is_least_of_any_reading;
-pub use readings::ranges_are_no_scale;
-pub use readings::readings_listed_once;
+pub use readings::cap_of_counts;
+pub use readings::ends_of_ranges;
+pub use readings::longest_priced_word;
+pub use readings::new_mark_counts;
+pub use readings::weight_at_both;
 pub use readings::worked_counts;
-pub use readings::yes_is_some_reading;
+pub use readings::yes_of_some_reading;

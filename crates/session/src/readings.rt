@@ -1,45 +1,41 @@
-// What the weights of a pattern say about its readings of a word, for every kind of symbol. Each contract is one theorem.
-ghost use mathlib.Core.Path.{_≡_};
+// What the weights of a pattern say about its readings of a word, for every kind of symbol. Each contract is a theorem,
+// and the answer is the number or weight that stands in it.
 ghost use Rattle.session.specs.Examples.{Counted-examples, worked};
 ghost use Rattle.session.specs.Strays.{New-mark-strays, Ranges-stray};
 ghost use Rattle.session.specs.Theorems.{Count-numbers-readings, Listed, Pair-weighs-each, Price-least-of-readings, Yes-tells-reading};
+ghost use mathlib.Core.Path.{_≡_};
+use scale::Pair;
 use scale::Scale;
 use table::Symbol;
 
-// The list of readings has each reading of the word, no other, and none twice.
-pub fn readings_listed_once<S: Symbol>() -> u8
-    ensures { λ _. ⌜ Listed (S·Symbol .passing) ⌝ }
+// The weight at yes that a word has exactly when there is a reading.
+pub fn yes_of_some_reading<S: Symbol>() -> bool
+    ensures { λ r. ⌜ Yes-tells-reading (S·Symbol .passing) r ⌝ }
 {
-    0
+    true
 }
 
-// The weight at yes is true exactly when there is a reading.
-pub fn yes_is_some_reading<S: Symbol>() -> u8
-    ensures { λ _. ⌜ Yes-tells-reading (S·Symbol .passing) ⌝ }
+// The cap up to which the weight at count is the number of readings, and 1 exactly when there is one and no other. The
+// list whose length is that number has each reading, no other, and none twice.
+pub fn cap_of_counts<S: Symbol>() -> u32
+    ensures listed { λ _. ⌜ Listed (S·Symbol .passing) ⌝ }
+    ensures number { λ r. ⌜ Count-numbers-readings (S·Symbol .passing) r ⌝ }
 {
-    0
+    4_294_967_295
 }
 
-// The weight at count is the number of readings, up to 4,294,967,295, and 1 exactly when there is one and no other.
-pub fn count_is_number_of_readings<S: Symbol>() -> u8
-    ensures { λ _. ⌜ Count-numbers-readings (S·Symbol .passing) ⌝ }
+// The length of word up to which the weight at least price is the least price of any reading, for leaf prices of 32 bits.
+pub fn longest_priced_word<S: Symbol>() -> usize
+    ensures { λ r. ⌜ Price-least-of-readings (S·Symbol .passing) r ⌝ }
 {
-    0
+    65_535
 }
 
-// The weight at least price is the least price of any reading, over words of at most 65,535 symbols
-// and leaf prices of 32 bits.
-pub fn price_is_least_of_any_reading<S: Symbol>() -> u8
-    ensures { λ _. ⌜ Price-least-of-readings (S·Symbol .passing) ⌝ }
+// What a word weighs at a pair of scales, from what it weighs at each.
+pub fn weight_at_both<A: Scale, B: Scale, S: Symbol>(first: A, second: B) -> Pair<A, B>
+    ensures { λ r. ⌜ Pair-weighs-each (A·Scale .ops) (B·Scale .ops) (S·Symbol .passing) first second r ⌝ }
 {
-    0
-}
-
-// The weight at a pair of scales is the pair of the two weights.
-pub fn pair_weighs_both<A: Scale, B: Scale, S: Symbol>() -> u8
-    ensures { λ _. ⌜ Pair-weighs-each (A·Scale .ops) (B·Scale .ops) (S·Symbol .passing) ⌝ }
-{
-    0
+    Pair { first, second }
 }
 
 // How many readings six small patterns have: ()* and ()|() over no byte, a|a* over a, (a|a*)(b|b*) over ab,
@@ -57,16 +53,18 @@ fn counted() -> [u32; 6]
     [1, 2, 2, 4, 1, 2]
 }
 
-// Start and end of a reading, with leftmost then longest as the sum, are no scale.
-pub fn ranges_are_no_scale() -> u8
-    ensures { λ _. ⌜ Ranges-stray ⌝ }
+// Start and end of a reading, with leftmost then longest as the sum, are no scale: where (3,4) × ((1,2) + (2,5)) ends,
+// and where (3,4) × (1,2) + (3,4) × (2,5) does.
+pub fn ends_of_ranges() -> [u32; 2]
+    ensures { λ r. ⌜ Ranges-stray r ⌝ }
 {
-    0
+    [2, 5]
 }
 
-// If the right operand of a then took the left's mark of the same symbol, aa would have a reading over a.
-pub fn new_mark_strays() -> u8
-    ensures { λ _. ⌜ New-mark-strays ⌝ }
+// The ways in which aa ends after one a: by the readings, by the left's mark from before the symbol, and by the left's
+// new mark, which reads the symbol twice.
+pub fn new_mark_counts() -> [u32; 3]
+    ensures { λ r. ⌜ New-mark-strays r ⌝ }
 {
-    0
+    [0, 0, 1]
 }
