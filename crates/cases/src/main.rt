@@ -1,5 +1,7 @@
 // Runs the text reader, the judge, the picture, sessions and sheets on many cases, and prints a line for each, to be held to the
 // stored answers.
+#![tactic(auto)]
+
 mod judged;
 mod lent;
 mod limits;

@@ -1,5 +1,7 @@
 // Cutting a file's bytes into lines. Byte 10 alone ends a line, and the last line may lack it: a final byte 10 begins
 // no further line. Every other byte, 13 too, belongs to its line. An empty file has no line.
+#![tactic(auto)]
+
 ghost use Rattle.std.specs.Prelude.{◌≡◌, ◌+◌, ◌<◌, ◌≤◌, [], length, MatchOption};
 ghost use Rattle.lines.specs.Laws.{Cut, Lawful};
 ghost use Rattle.lines.specs.Lines.{lines};

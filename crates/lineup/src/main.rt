@@ -1,5 +1,7 @@
 // Writes a row for each result line of a meet: lane, letter and number of readings. The line pattern and the club pattern
 // stand in `patterns.txt`, the start list in `start.txt` and the results in `results.txt`.
+#![tactic(auto)]
+
 use std::alloc::Global;
 use std::fs::File;
 use std::io;

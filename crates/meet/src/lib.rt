@@ -1,4 +1,6 @@
 // A meet: its patterns and result lines, and the row that is written for each line.
+#![tactic(auto)]
+
 mod entering;
 mod listing;
 mod parsing;

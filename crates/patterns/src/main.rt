@@ -1,5 +1,7 @@
 // Shows a club, before the meet, how the two patterns of its file `patterns.txt` are understood: the first line is the
 // line pattern, the second the club pattern.
+#![tactic(auto)]
+
 use picture::report;
 use std::alloc::Global;
 use std::fs::File;

@@ -1,5 +1,7 @@
 // Readings: what the weights of a pattern say about its readings of a word, for every kind of symbol. Each contract is a
 // theorem, and the answer is the number or weight that stands in it.
+#![tactic(auto)]
+
 ghost use Rattle.readings.specs.Examples.{CountedExamples, worked};
 ghost use Rattle.readings.specs.Theorems.{CountNumbersReadings, Listed, PairWeighsEach, PriceLeastOfReadings, YesTellsReading, accepting, count_cap, longest_priced};
 ghost use Rattle.scale.specs.Pairs.{pair};

@@ -1,7 +1,7 @@
 -- Count keeps the laws of a scale. Assumes nothing.
 use Rattle.std.specs.Prelude.{◌≡◌, ℕ, zero, suc, ◌+◌, ◌*◌, refl}
 use Rattle.std.proofs.Common.{sym, ap, ◌∙◌, ⊎_elim, mul_assoc, mul_comm, mul-add, add-mul, zero-mul, suc-mul, arith, true-eqb}
-use Rattle.std.proofs.str.Laws.{order}
+use Rattle.std.proofs.lemmas.Bool.{cases_lt}
 use Rattle.scale.specs.Semiring.{Semiring, Tells}
 use Rattle.scale.specs.Counts.{capped, count_ops, count_path}
 
@@ -12,7 +12,7 @@ capped_times (suc a) b =
     ⊎_elim
     (λ lt. ap (λ n. capped (suc a * n)) (omega arith))
     (λ ge. omega (arith, suc-mul a (capped b), suc-mul a b))
-    (order b 4_294_967_295)
+    (cases_lt b 4_294_967_295)
 
 pub times_capped : (a b : ℕ) → capped (capped a * b) ≡ capped (a * b)
 times_capped a b = ap capped (mul_comm (capped a) b) ∙ capped_times b a ∙ ap capped (mul_comm b a)

@@ -1,4 +1,6 @@
 // Scales: the weights that readings are added up in.
+#![tactic(auto)]
+
 mod count;
 mod pair;
 mod price;

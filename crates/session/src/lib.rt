@@ -1,4 +1,6 @@
 // Sessions: the marks of a pattern, which add up what a word weighs by all its readings, symbol by symbol.
+#![tactic(auto)]
+
 mod fault;
 mod lent;
 mod marks;

@@ -1,4 +1,6 @@
 // The ruling sheet: which lanes have one reading, which are to be ruled on, and how they were ruled.
+#![tactic(auto)]
+
 mod entry;
 mod fault;
 mod lanes;

@@ -1,4 +1,6 @@
 // The table: patterns as nodes in postfix order, the kinds of symbol, and the judge that checks a list of nodes.
+#![tactic(auto)]
+
 mod byte;
 mod fault;
 mod node;

@@ -1,4 +1,6 @@
 // The pattern text: from the bytes that a club writes to the nodes of a byte table.
+#![tactic(auto)]
+
 mod fault;
 mod judged;
 mod reader;

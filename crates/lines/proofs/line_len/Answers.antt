@@ -6,12 +6,12 @@ use Rattle.std.proofs.ByRecursion.{All-more}
 use Rattle.std.proofs.lemmas.List.{take_all, take_rest}
 
 pub loop-i-preserved : goal.loop-i-preserved
-loop-i-preserved c = All-more _ _ c.loop-i.i 0 c.loop-i-test.true c.loop-i.invariant c.if-byte-eq-LINE-END.false
+loop-i-preserved c = All-more _ _ c.loop-i.i 0 c.loop-i-test.true c.loop-i.invariant c.if-byte-eq-LINE_END.false
 
-pub returns-then-byte-eq-LINE-END : goal.returns-then-byte-eq-LINE-END
-returns-then-byte-eq-LINE-END c = record {
+pub returns-then-byte-eq-LINE_END : goal.returns-then-byte-eq-LINE_END
+returns-then-byte-eq-LINE_END c = record {
   within = omega arith;
-  ended = λ lt. cut_at _ _ _ c.loop-i.i lt c.if-byte-eq-LINE-END.true c.loop-i.invariant (search rules) (take_rest c.args.file.now (c.loop-i.i + 1));
+  ended = λ lt. cut_at _ _ _ c.loop-i.i lt c.if-byte-eq-LINE_END.true c.loop-i.invariant (search rules) (take_rest c.args.file.now (c.loop-i.i + 1));
   last = λ all some. absurd (omega arith);
   law = lawful _;
 }

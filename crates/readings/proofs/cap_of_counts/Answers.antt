@@ -6,5 +6,5 @@ use Rattle.readings.specs.Theorems.{CountNumbersReadings}
 pub returns : goal.returns
 returns g c = record {
   listed = listed g.S.Symbol.passing;
-  number = subst (CountNumbersReadings g.S.Symbol.passing) (sym c.greatest-count.ensures) (count_numbers_readings g.S.Symbol.passing);
+  number = subst (CountNumbersReadings g.S.Symbol.passing) (sym c.greatest_count.ensures) (count_numbers_readings g.S.Symbol.passing);
 }

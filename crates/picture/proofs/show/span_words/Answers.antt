@@ -10,4 +10,4 @@ named : (r : Result (String Global) AllocError) (a b x y : List ℕ) → a ≡ x
 named r a b x y e f h = subst (λ l. Spells r l y) e (subst (λ l. Spells r a l) f h)
 
 pub returns : goal.returns
-returns c = named _ _ _ _ _ c.in-ok-first.ensures c.in-ok-last.ensures c.format.ensures.ok
+returns c = named _ _ _ _ _ c.in_ok-first.ensures c.in_ok-last.ensures c.format.ensures.ok

@@ -2,8 +2,8 @@ use Rattle.std.proofs.Common.{arith}
 use Rattle.session.proofs.Shapes.{right_size}
 use Rattle.session.proofs.marks.right_len.Goals as goal
 
-pub overflow-sub-result : goal.overflow-sub-result
-overflow-sub-result c = let s = right_size _ c.args.nodes.now c.requires.whole c.requires.two in omega (arith, s.long, s.some_left, s.some_right)
+pub overflow_sub-result : goal.overflow_sub-result
+overflow_sub-result c = let s = right_size _ c.args.nodes.now c.requires.whole c.requires.two in omega (arith, s.long, s.some_left, s.some_right)
 
 pub bounds-nodes-nodes : goal.bounds-nodes-nodes
 bounds-nodes-nodes c = let s = right_size _ c.args.nodes.now c.requires.whole c.requires.two in omega (arith, s.long, s.some_left, s.some_right)

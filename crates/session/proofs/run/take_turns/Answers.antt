@@ -19,17 +19,17 @@ loop-at-preserved g c =
     let at = c.loop-at.at in
     let us = c.loop-at.turns in
     let d = c.index-turns-at.result in
-    let u : Turn g.row.W.Denot g.row.S.Denot = record { ask = (get_or us at d).ask; reply = c.reply-to-reply.result } in
+    let u : Turn g.row.W.Denot g.row.S.Denot = record { ask = (get_or us at d).ask; reply = c.reply_to-reply.result } in
     let more : take (at + 1) (set us at u) ≡ take at us ++ u ∷ [] = take_more_set us at u (omega (arith, c.loop-at-test.true, c.loop-at.auto.turns)) in
     let same = c.loop-at.invariant.0.table in (
-      kept_trans c.args.session.now c.loop-at.session c.reply-to-reply.new.session c.loop-at.invariant.0 c.reply-to-reply.ensures.kept,
+      kept_trans c.args.session.now c.loop-at.session c.reply_to-reply.new.session c.loop-at.invariant.0 c.reply_to-reply.ensures.kept,
       map-set_same (λ (v : Turn g.row.W.Denot g.row.S.Denot). v.ask) us at u d refl ∙ c.loop-at.invariant.1,
       λ w h.
           let before = c.loop-at.invariant.2 w h in
-          let next = c.reply-to-reply.ensures.right (held_after w (take at us)) before.1 in (
+          let next = c.reply_to-reply.ensures.right (held_after w (take at us)) before.1 in (
             subst (AllRight o passing number allowed c.args.session.now.table.now w) (sym more)
                 (right_more o passing number allowed c.args.session.now.table.now w (take at us) u before.0 (subst (λ t. Right o passing number allowed t (held_after w (take at us)) u.ask u.reply) same next.0)),
-            subst (Holds o passing c.reply-to-reply.new.session) (sym (ap (held_after w) more ∙ held_more w (take at us) u)) next.1,
+            subst (Holds o passing c.reply_to-reply.new.session) (sym (ap (held_after w) more ∙ held_more w (take at us) u)) next.1,
           ),
     )
 

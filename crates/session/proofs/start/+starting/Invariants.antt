@@ -7,5 +7,5 @@ decreases-start g l = 3 * length l.nodes.now + 2
 abbrev pub decreases-start-below : goal.decreases-start-below
 decreases-start-below g l = 3 * length l.nodes.now + 1
 
-abbrev pub decreases-start-both : goal.decreases-start-both
-decreases-start-both g l = 3 * length l.nodes.now
+abbrev pub decreases-start_both : goal.decreases-start_both
+decreases-start_both g l = 3 * length l.nodes.now

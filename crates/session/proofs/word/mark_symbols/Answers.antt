@@ -11,7 +11,7 @@ loop-at-preserved g c =
     let s = c.index-word-at.result in
     let more : take at word ++ s ∷ [] ≡ take (at + 1) word = ap (λ x. take at word ++ x ∷ []) c.index-word-at.is ∙ sym (take_more word at s c.loop-at-test.true) in
     let long : length (take at word) ≡ at = length-take at word ∙ omega (arith, c.loop-at-test.true) in
-    (c.mark-symbol.ensures (take at word) long c.loop-at.invariant).0 ∙ ap (marks_after g.W.Scale.ops g.S.Symbol.passing (tree_of c.args.nodes.now)) more
+    (c.mark_symbol.ensures (take at word) long c.loop-at.invariant).0 ∙ ap (marks_after g.W.Scale.ops g.S.Symbol.passing (tree_of c.args.nodes.now)) more
 
 pub returns : goal.returns
 returns g c = c.loop-at.invariant ∙ ap (marks_after g.W.Scale.ops g.S.Symbol.passing (tree_of c.args.nodes.now)) (take_all c.loop-at.at c.args.word.now c.loop-at-test.false)

@@ -19,7 +19,7 @@ returns-in-Ok c =
 pub returns-in-Err : goal.returns-in-Err
 returns-in-Err c =
     let t = c.in-Err.ensures in
-    let long : length c.read-nodes.new.nodes ≡ length c.args.nodes.now = omega arith in
+    let long : length c.read_nodes.new.nodes ≡ length c.args.nodes.now = omega arith in
     record {
       answer = t.answer;
       only = λ a h. one_answer c.args.text.now (length c.args.nodes.now) a (Err c.in-Err.fault) h t.answer;

@@ -9,8 +9,8 @@ returns g c =
     let o = g.W.Scale.ops in
     let passing = g.S.Symbol.passing in
     let t = tree c.args.self.now.table.now in
-    let clear = c.in-ok-tests.ensures.refused in
-    let next = c.in-ok-tests.ensures.after in
+    let clear = c.in_ok-tests.ensures.refused in
+    let next = c.in_ok-tests.ensures.after in
     let below = held_below g.S.Symbol.number (g.S.Symbol.allowed c.args.symbol) c.args.self.now.table.now (length c.args.self.now.weights.now) c.args.self.now.held clear in
     record {
       refused = clear;
@@ -20,7 +20,7 @@ returns g c =
           let long = length-append w (c.args.symbol ∷ []) in
           let live = (next.front w (h.count, h.marked)).1 in (
             record {
-              room = omega (arith, h.room, c.mark-next.auto.weights);
+              room = omega (arith, h.room, c.mark_next.auto.weights);
               count = omega (arith, long, h.count);
               few = omega (arith, long, h.count, below);
               marked = (next.front w (h.count, h.marked)).0;
