@@ -90,7 +90,7 @@ fn shift_either<W: Scale, S: Symbol>(
 #[cycle(shifting)]
 fn shift_then<W: Scale, S: Symbol>(nodes: &[Node], marks: &mut [W], incoming: W, symbol: S) -> usize
     requires fits { Fits (tree_of nodes.now) nodes.now (length marks.old) }
-    requires two { tree_of nodes.now ≡ then (left_of (tree_of nodes.now)) (right_of (tree_of nodes.now)) }
+    requires two { tree_of nodes.now ≡ (then) (left_of (tree_of nodes.now)) (right_of (tree_of nodes.now)) }
     ensures few { result ≤ length nodes.now }
     ensures shifted { Shifted W.Scale.ops S.Symbol.passing (tree_of nodes.now) marks.old incoming symbol marks.new result }
 {
