@@ -10,7 +10,7 @@ abbrev pub sheet_refusal : ℕ → ℕ → Refusal
 sheet_refusal n p = record { number = n; place = p; layer = 5 }
 
 abbrev pub refusal_of : SheetFault → Refusal
-refusal_of (Session l f) = session.refusal-of f
+refusal_of (Session l f) = session.refusal_of f
 refusal_of (BadLane l) = sheet_refusal 11 l
 refusal_of LongLine = sheet_refusal 12 most_symbols
 refusal_of (Filled l) = sheet_refusal 21 l

@@ -47,9 +47,9 @@ answered (Err f) = Some (refusal_of f)
 
 abbrev pub session_answered : {A : Type 0} → Result A SessionFault → Option Refusal
 session_answered (Ok x) = None
-session_answered (Err f) = Some (session.refusal-of f)
+session_answered (Err f) = Some (session.refusal_of f)
 
 -- the same, with the lane beside the fault
 abbrev pub JudgedAtLane : {A : Type 0} → ℕ → Option Refusal → Result A AtLane → Type 0
 JudgedAtLane lane o (Ok x) = o ≡ None
-JudgedAtLane lane o (Err a) = (o ≡ Some (session.refusal-of a.fault)) × (a.lane ≡ lane)
+JudgedAtLane lane o (Err a) = (o ≡ Some (session.refusal_of a.fault)) × (a.lane ≡ lane)

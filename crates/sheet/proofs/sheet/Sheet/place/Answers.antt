@@ -2,9 +2,9 @@ use Rattle.std.proofs.Common.{refl}
 use Rattle.sheet.proofs.Moves.{put_as, moved_apart, moved_set}
 use Rattle.sheet.proofs.sheet.Sheet.place.Goals as goal
 
-pub invariant-of-self : goal.invariant-of-self
-invariant-of-self c =
-    (moved_apart c.args.self.now c.args.lane c.args.to (put_as c.put-self.ensures c.is.ensures) (put_as c.put-self-2.ensures c.is-2.ensures) (put_as c.put-self-3.ensures c.is-3.ensures) (put_as c.put-self-4.ensures c.is-4.ensures), tt)
+pub invariant_of-self : goal.invariant_of-self
+invariant_of-self c =
+    record { apart = moved_apart c.args.self.now c.args.lane c.args.to (put_as c.put-self.ensures c.is.ensures) (put_as c.put-self-2.ensures c.is-2.ensures) (put_as c.put-self-3.ensures c.is-3.ensures) (put_as c.put-self-4.ensures c.is-4.ensures) }
 
 pub returns : goal.returns
 returns c = record {
