@@ -3,7 +3,7 @@ use Rattle.std.proofs.Common.{◌≡◌, ℕ, ◌+◌, ◌<◌, Bool, true, fals
 use Rattle.lines.specs.Laws.{Unbroken, closed, ended, Lawful, Cut}
 use Rattle.lines.specs.Lines.{lines, onto}
 use Rattle.std.proofs.lemmas.List.{drop_more}
-use Rattle.std.specs.List.{flat_map, AllByRecursion as All}
+use Rattle.std.specs.List.{flat_map, AllByRecursion}
 
 -- a byte other than 10 belongs to the line that it stands before
 other : (b : ℕ) (bs : List ℕ) → (b ≡ 10 → ⊥) → lines (b ∷ bs) ≡ onto b (lines bs)
@@ -22,12 +22,12 @@ lines_last b [] u = other b [] u.0
 lines_last b (c ∷ l) u = other b (c ∷ l) u.0 ∙ ap (onto b) (lines_last c l u.1)
 
 -- no line holds byte 10
-unbroken_more : (b : ℕ) (ls : List (List ℕ)) (t : Bool) → t ≡ eqb b 10 → All Unbroken ls → All Unbroken (cond t ([] ∷ ls) (onto b ls))
+unbroken_more : (b : ℕ) (ls : List (List ℕ)) (t : Bool) → t ≡ eqb b 10 → AllByRecursion Unbroken ls → AllByRecursion Unbroken (cond t ([] ∷ ls) (onto b ls))
 unbroken_more b ls true e u = (tt, u)
 unbroken_more b [] false e u = ((false-eqb b 10 e, tt), tt)
 unbroken_more b (l ∷ ls) false e u = ((false-eqb b 10 e, u.0), u.1)
 
-unbroken_lines : (file : List ℕ) → All Unbroken (lines file)
+unbroken_lines : (file : List ℕ) → AllByRecursion Unbroken (lines file)
 unbroken_lines [] = tt
 unbroken_lines (b ∷ bs) = unbroken_more b (lines bs) (eqb b 10) refl (unbroken_lines bs)
 
@@ -65,7 +65,7 @@ lines_ended [] = refl
 lines_ended (b ∷ []) = lines_ended_one b (eqb b 10) refl
 lines_ended (b ∷ c ∷ bs) = ap (λ ls. cond (eqb b 10) ([] ∷ ls) (onto b ls)) (lines_ended (c ∷ bs))
 
-lines_joined : (ls : List (List ℕ)) → All Unbroken ls → lines (flat_map closed ls) ≡ ls
+lines_joined : (ls : List (List ℕ)) → AllByRecursion Unbroken ls → lines (flat_map closed ls) ≡ ls
 lines_joined [] u = refl
 lines_joined (l ∷ ls) u = ap lines (append_assoc l (10 ∷ []) (flat_map closed ls)) ∙ lines_front l (flat_map closed ls) u.0 ∙ ap (λ x. l ∷ x) (lines_joined ls u.1)
 

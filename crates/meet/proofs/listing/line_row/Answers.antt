@@ -6,7 +6,7 @@ pub returns : goal.returns
 returns c =
     let d = c.settle-answer.ensures in
     record {
-      row = answer_written c.args.line.now c.args.table.now (length c.args.weights.now) _ _ c.args.sheet.now c.settle-answer.new.sheet c.requires.bytes c.requires.room c.laned-lane.ensures.lane c.laned-lane.ensures.text c.settle-answer.result c.args.number c.answer-row.result d c.answer-row.ensures;
+      row = answer_written c.args.line.now c.args.table.now (length c.args.weights.now) _ _ c.args.sheet.now c.settle-answer.new.sheet c.requires.bytes c.requires.room c.laned-lane.ensures.lane c.laned-lane.ensures.text c.settle-answer.result c.args.number c.answer_row.result d c.answer_row.ensures;
       lanes = answer_lanes c.args.line.now c.args.table.now (length c.args.weights.now) _ _ c.args.sheet.now c.settle-answer.new.sheet c.requires.bytes c.requires.room c.laned-lane.ensures.lane c.laned-lane.ensures.text c.settle-answer.result d;
       settled = answer_settled c.args.line.now c.args.table.now (length c.args.weights.now) _ _ c.args.sheet.now c.settle-answer.new.sheet c.requires.bytes c.requires.room c.laned-lane.ensures.lane c.laned-lane.ensures.text c.settle-answer.result d;
     }

@@ -15,12 +15,12 @@ loop-line-preserved c =
     let before = inv.0 in
     let f = filled c.loop-line.sheet in
     let cut = c.in-Some.ensures.parts in (
-      c.line-row.ensures.settled,
+      c.line_row.ensures.settled,
       omega (arith, cut.shorter, c.loop-line.invariant.1),
       (
         line ∷ before,
         omega (arith, inv.1),
-        (λ k. next_filled p before line f inv.2 k _ (c.line-row.ensures.lanes k)),
-        next_rows p before line f inv.2 c.loop-line.rest.now after (vec_items c.loop-line.out) (vec_items c.extend-from-slice.new.self) c.as-bytes.result.now (string_bytes c.in-ok-row.row) (rows p [] (lines c.args.results.now)) c.loop-line.number inv.1 cut.cuts c.in-ok-extend-from-slice.ensures.items c.as-bytes.ensures.value c.in-ok-row.ensures.row inv.3,
+        (λ k. next_filled p before line f inv.2 k _ (c.line_row.ensures.lanes k)),
+        next_rows p before line f inv.2 c.loop-line.rest.now after (vec_items c.loop-line.out) (vec_items c.extend_from_slice.new.self) c.as_bytes.result.now (string_bytes c.in_ok-row.row) (rows p [] (lines c.args.results.now)) c.loop-line.number inv.1 cut.cuts c.in_ok-extend_from_slice.ensures.items c.as_bytes.ensures.value c.in_ok-row.ensures.row inv.3,
       ),
     )
