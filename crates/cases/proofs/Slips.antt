@@ -21,16 +21,16 @@ use Rattle.sheet.proofs.Answered.{placed_owed, gives_more, slip_due}
 
 -- the slip matches, and its lane alone is owed
 abbrev pub Owes : Sheet → Slip → Type 0
-Owes s p = (matches s p ≡ true) × (((k : ℕ) → is_owed s k ≡ eqb k p.lane) × Unit {0})
+Owes s p = (matches s p ≡ true) × ((k : ℕ) → is_owed s k ≡ eqb k p.lane)
 
 -- so it is by another slip of that number and lane
 pub other_slip : (s : Sheet) (p q : Slip) → q.sheet ≡ p.sheet → q.lane ≡ p.lane → matches s p ≡ true → ((k : ℕ) → is_owed s k ≡ eqb k p.lane) → Owes s q
 other_slip s p q n l fits only =
-    (ap (λ x. eqb x s.number && same (standing s q.lane) Owed) n ∙ ap (λ x. eqb p.sheet s.number && same (standing s x) Owed) l ∙ fits, ((λ k. only k ∙ ap (eqb k) (sym l)), tt))
+    (ap (λ x. eqb x s.number && same (standing s q.lane) Owed) n ∙ ap (λ x. eqb p.sheet s.number && same (standing s x) Owed) l ∙ fits, λ k. only k ∙ ap (eqb k) (sym l))
 
 -- and on a sheet that is the same
 pub same_sheet : (s t : Sheet) (p : Slip) → t ≡ s → matches s p ≡ true → ((k : ℕ) → is_owed s k ≡ eqb k p.lane) → Owes t p
-same_sheet s t p e fits only = (ap (λ x. matches x p) e ∙ fits, ((λ k. ap (λ x. is_owed x k) e ∙ only k), tt))
+same_sheet s t p e fits only = (ap (λ x. matches x p) e ∙ fits, λ k. ap (λ x. is_owed x k) e ∙ only k)
 
 module _ (lane : ℕ) (line : List ℕ) (table : Table) (room : ℕ) (e : Entry) (b s : Sheet) (d : Entered lane line table room (Ok e) b s) (price : ℕ) (p : Slip) (is : e ≡ entries.Owed price p) where
   -- where no lane was owed, the slip's lane alone is
@@ -53,7 +53,7 @@ unfilled Struck h = refl
 
 -- as many lanes are owed under the same number
 pub as_owed : (b t : Sheet) (p : Slip) → t.number ≡ b.number → ((k : ℕ) → is_owed t k ≡ is_owed b k) → matches b p ≡ true → ((k : ℕ) → is_owed b k ≡ eqb k p.lane) → Owes t p
-as_owed b t p n o fits only = (ap (λ x. eqb p.sheet x && is_owed t p.lane) n ∙ ap (λ x. eqb p.sheet b.number && x) (o p.lane) ∙ fits, ((λ k. o k ∙ only k), tt))
+as_owed b t p n o fits only = (ap (λ x. eqb p.sheet x && is_owed t p.lane) n ∙ ap (λ x. eqb p.sheet b.number && x) (o p.lane) ∙ fits, λ k. o k ∙ only k)
 
 module _ (lane : ℕ) (line : List ℕ) (table : Table) (room : ℕ) (e : Entry) (b s : Sheet) (d : Entered lane line table room (Ok e) b s) where
   unfilled_there : is_owed b lane ≡ false
