@@ -15,9 +15,9 @@ use Rattle.sheet.specs.Calls.{filled}
 use Rattle.sheet.specs.Closes.{is_owed}
 use Rattle.sheet.specs.Faults.{sheet_refusal}
 use Rattle.sheet.specs.Lanes.{NoneOf}
-use Rattle.sheet.specs.Refusals.{entry_refusal, filled_refusal, kind_refusal, lane_refusal, line_refusal, room_refusal, session_judged}
+use Rattle.sheet.specs.Refusals.{entry_refusal, filled_refusal, lane_refusal, line_refusal, room_refusal, session_judged}
 use Rattle.sheet.specs.Weighing.{line_weight, needed}
-use Rattle.meet.specs.Meet.{by_refusal, fills, filled_with, line_row, readings_of, refusal}
+use Rattle.meet.specs.Meet.{by_refusal, filled_with, line_row, readings_of, refusal}
 use Rattle.meet.specs.Parts.{lane_of, text_of}
 use Rattle.meet.specs.Rows.{row}
 use Rattle.meet.specs.Settled.{Settled, answer_row}

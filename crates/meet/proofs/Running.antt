@@ -1,5 +1,5 @@
 -- The rows of line after line. Assumes nothing.
-use Rattle.std.proofs.Common.{◌≡◌, ℕ, ◌+◌, ◌≤◌, Bool, false, not, ◌&&◌, ◌||◌, eqb, List, ◌∷◌, ◌++◌, length, take, sym, ap, ◌∙◌, append_assoc, arith, length-take}
+use Rattle.std.proofs.Common.{◌≡◌, ℕ, ◌+◌, ◌≤◌, Bool, not, ◌&&◌, ◌||◌, eqb, List, ◌∷◌, ◌++◌, length, sym, ap, ◌∙◌, append_assoc, arith, length-take}
 use Rattle.lines.specs.Lines.{lines}
 use Rattle.table.specs.declared.table.Table.{Table}
 use Rattle.table.specs.Content.{content, tree}

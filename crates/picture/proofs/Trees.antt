@@ -1,5 +1,5 @@
 -- The nodes of a tree, from their end. Assumes nothing.
-use Rattle.std.proofs.Common.{◌≡◌, ℕ, ◌+◌, ◌-◌, ◌<◌, ◌≤◌, List, [], ◌∷◌, ◌++◌, length, get_or, take, drop, sym, refl, ap, ◌∙◌, subst, append_assoc, append-nil, arith, length-append, take-append-drop}
+use Rattle.std.proofs.Common.{◌≡◌, ℕ, ◌+◌, ◌-◌, ◌≤◌, List, [], ◌∷◌, ◌++◌, length, get_or, take, drop, sym, refl, ap, ◌∙◌, append_assoc, arith, length-append, take-append-drop}
 use Rattle.picture.specs.Outline.{Outlined, Parted, line_of, outlined}
 use Rattle.picture.specs.Words.{node_words}
 use Rattle.std.proofs.lemmas.List.{get_or_at, take_at, drop_at, same_from_push, length_push, nil_from_length}

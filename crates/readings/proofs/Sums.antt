@@ -4,7 +4,7 @@ use mathlib.Core.List.{map-append}
 use Rattle.scale.specs.Semiring.{Ops, Semiring}
 use Rattle.table.specs.declared.node.Leaf.{Leaf}
 use Rattle.table.specs.Tree.{Tree, empty, leaf, either, then, repeat}
-use Rattle.readings.specs.Readings.{Reading, none, symbol, left, right, cut, stop, part, prices}
+use Rattle.readings.specs.Readings.{Reading, symbol, left, right, cut, stop, part, prices}
 use Rattle.readings.specs.Weights.{product, total, reading_weight, pairs, cuts, divided, divisions, readings, weight}
 
 -- the sum over every cut of u ++ w after u or later

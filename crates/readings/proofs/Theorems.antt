@@ -1,5 +1,5 @@
 -- The statements about readings and weights, put together from their parts. Assumes nothing.
-use Rattle.std.proofs.Common.{◌≡◌, ℕ, Bool, true, [], ◌∷◌, refl, ap, ◌∙◌, arith}
+use Rattle.std.proofs.Common.{Bool, true, ap, ◌∙◌}
 use Rattle.table.specs.declared.node.Leaf.{Leaf}
 use Rattle.scale.specs.Semiring.{Ops}
 use Rattle.scale.specs.Pairs.{pair}

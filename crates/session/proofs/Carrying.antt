@@ -1,5 +1,5 @@
 -- A map between two scales carries every weight, and so every reply of a succession. Assumes nothing.
-use Rattle.std.proofs.Common.{◌≡◌, ℕ, Bool, List, [], ◌∷◌, ◌++◌, map, length, Some, None, Option, sym, refl, ap, ◌∙◌, subst, arith}
+use Rattle.std.proofs.Common.{◌≡◌, ℕ, Bool, List, [], ◌∷◌, map, length, Some, None, Option, sym, refl, ap, ◌∙◌, subst, arith}
 use Rattle.scale.specs.Semiring.{Ops}
 use Rattle.table.specs.declared.node.Leaf.{Leaf}
 use Rattle.table.specs.declared.table.Table.{Table}
@@ -7,14 +7,12 @@ use Rattle.table.specs.Content.{tree}
 use Rattle.table.specs.Tree.{Tree}
 use Rattle.readings.specs.Readings.{Reading, prices}
 use Rattle.readings.specs.Weights.{product, total, reading_weight, readings, weight}
-use Rattle.session.specs.declared.fault.SessionFault.{SessionFault}
 use Rattle.session.specs.declared.turn.Ask.{Ask}
 use Rattle.session.specs.declared.turn.Ask.TheVariants.{Read, Weigh, Restart}
 use Rattle.session.specs.declared.turn.Reply.{Reply}
 use Rattle.session.specs.declared.turn.Reply.TheVariants.{Took, Weighs, Restarted, Refused}
 use Rattle.session.specs.declared.turn.Turn.{Turn}
-use Rattle.session.specs.Runs.{Carries, LawOfMaps, Right, AllRight, ReadRight, asks, carried, held_next, replies}
-use Rattle.session.specs.Sessions.{symbol_fault}
+use Rattle.session.specs.Runs.{Carries, Right, AllRight, ReadRight, asks, carried, held_next, replies}
 use Rattle.session.proofs.Lending.{none_some}
 
 some_same : {A : Type 0} (d x y : A) → ◌≡◌ {A = Option A} (Some x) (Some y) → x ≡ y

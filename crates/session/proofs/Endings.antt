@@ -6,7 +6,7 @@ use Rattle.table.specs.declared.node.Leaf.{Leaf}
 use Rattle.table.specs.Tree.{Tree, empty, leaf, either, then, repeat}
 use Rattle.readings.specs.Weights.{weight}
 use Rattle.session.specs.Marks.{Taken, taken, ending, last_weight, empty_weight, to_right, to_repeated, to_root}
-use Rattle.readings.proofs.Sums.{nothing_sum, spread, weight_empty, weight_leaf, weight_either, weight_then, weight_stop, weight_repeat}
+use Rattle.readings.proofs.Sums.{nothing_sum, spread, weight_leaf, weight_either, weight_then, weight_stop, weight_repeat}
 
 module _ {W S : Type 0} (o : Ops W) (laws : Semiring o) (passing : Leaf → S → Bool) where
   -- sums of sums

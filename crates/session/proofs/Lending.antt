@@ -1,19 +1,18 @@
 -- A session's step over a lent list: room, the front of the list, and the root's weight. Assumes nothing.
-use Rattle.std.proofs.Common.{◌≡◌, ℕ, ◌+◌, ◌-◌, ◌*◌, ◌<◌, ◌≤◌, Bool, true, false, cond, leb, List, [], ◌∷◌, ◌++◌, length, get_or, take, drop, Some, None, Option, sym, refl, ap, ◌∙◌, subst, inl, inr, arith, length-take}
+use Rattle.std.proofs.Common.{◌≡◌, ℕ, ◌-◌, ◌*◌, ◌≤◌, Bool, cond, leb, List, [], ◌∷◌, ◌++◌, length, get_or, take, drop, Some, None, Option, sym, ap, ◌∙◌, subst, inl, inr, arith, length-take}
 use native.Mathlib.Nat.{sub-zero}
 use borrow.Rule.Slice.PartMut.{post_of}
 use Rattle.std.proofs.lemmas.Bool.Decides.{leb_tells}
 use Rattle.scale.specs.Semiring.{Ops, Semiring}
 use Rattle.table.specs.declared.node.Leaf.{Leaf}
 use Rattle.table.specs.declared.node.Node.{Node}
-use Rattle.table.specs.Tree.{Tree, size, postfix, tree_of}
-use Rattle.table.proofs.Postfix.{size_pos}
+use Rattle.table.specs.Tree.{Tree, postfix, tree_of}
 use Rattle.readings.specs.Weights.{weight}
 use Rattle.session.specs.declared.fault.SessionFault.{SessionFault}
 use Rattle.session.specs.declared.fault.SessionFault.TheVariants.{ShortList}
 use Rattle.session.specs.Sessions.{Front, Next}
 use Rattle.session.specs.Shifts.{Fits}
-use Rattle.session.specs.Words.{needed, root_place, marks_after, Follows}
+use Rattle.session.specs.Words.{needed, root_place, Follows}
 use Rattle.session.proofs.Wording.{front_new, behind_same, same_tree, nodes_long, nodes_fit, root_holds}
 
 abbrev IsNone : {A : Type 0} → Option A → Type 0

@@ -1,8 +1,8 @@
 -- What a list of nodes says of its tree: the root's kind, and where the operands' nodes stand. Assumes nothing.
-use Rattle.std.proofs.Common.{◌≡◌, ℕ, ◌+◌, ◌-◌, ◌*◌, ◌<◌, ◌≤◌, Bool, List, [], ◌∷◌, ◌++◌, length, get_or, take, drop, sym, refl, ap, ◌∙◌, subst, append-nil, zero-add, arith, length-append}
+use Rattle.std.proofs.Common.{◌≡◌, ℕ, ◌+◌, ◌-◌, ◌*◌, ◌≤◌, List, [], ◌∷◌, ◌++◌, length, take, drop, sym, refl, ap, ◌∙◌, append-nil, arith, length-append}
 use Rattle.table.specs.declared.node.Node.{Node}
 use Rattle.table.specs.Rules.{node_at}
-use Rattle.table.specs.Tree.{Tree, empty, leaf, either, then, repeat, size, inner, leaf_of, postfix, tree_of}
+use Rattle.table.specs.Tree.{Tree, empty, leaf, either, then, repeat, size, leaf_of, postfix, tree_of}
 use Rattle.table.proofs.Postfix.{tree_of_postfix, size_pos, length_postfix, root, root_at, root_size}
 use Rattle.session.specs.Shifts.{left_of, right_of, Binary, Cut, Fits}
 use Rattle.session.proofs.Parts.{left_part, right_part, only_part}

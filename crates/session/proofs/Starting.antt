@@ -1,13 +1,13 @@
 -- The marks before the first symbol, put together from those of the operands. Assumes nothing.
-use Rattle.std.proofs.Common.{◌≡◌, ℕ, ◌+◌, ◌-◌, ◌*◌, ◌≤◌, Bool, false, cond, not, ◌||◌, List, [], ◌∷◌, ◌++◌, length, get_or, take, drop, set, sym, refl, ap, ◌∙◌, subst, append_assoc, arith, length-append, length-drop, take-append-drop, length-take}
+use Rattle.std.proofs.Common.{◌≡◌, ℕ, ◌+◌, ◌-◌, ◌*◌, Bool, false, cond, not, ◌||◌, List, [], ◌∷◌, ◌++◌, length, get_or, take, drop, set, sym, refl, ap, ◌∙◌, subst, append_assoc, arith, length-append, length-drop, take-append-drop, length-take}
 use borrow.Rule.Slice.PartMut.{put_mid, post_of}
 use Rattle.std.proofs.lemmas.List.{take_at}
-use Rattle.scale.specs.Semiring.{Ops, Semiring, Tells}
+use Rattle.scale.specs.Semiring.{Ops, Tells}
 use Rattle.table.specs.declared.node.Leaf.{Leaf}
 use Rattle.table.specs.declared.node.Node.{Node}
 use Rattle.table.specs.Tree.{Tree, empty, leaf, either, then, repeat, size, postfix}
 use Rattle.table.proofs.Postfix.{size_pos, length_postfix}
-use Rattle.session.specs.Marks.{empty_weight, flag_weight, marked, marks, three}
+use Rattle.session.specs.Marks.{empty_weight, marked, three}
 use Rattle.session.specs.Shifts.{left_of, right_of}
 use Rattle.session.specs.Starts.{first_marks, below_root, Below, Both}
 use Rattle.session.proofs.Parts.{root_set, both_written, in_left, in_right}

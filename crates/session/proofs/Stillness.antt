@@ -1,5 +1,5 @@
 -- A pattern with no mark below, into which nothing comes, stays as it is. Assumes nothing.
-use Rattle.std.proofs.Common.{◌≡◌, ℕ, ◌+◌, Bool, true, false, cond, not, ◌||◌, List, [], ◌∷◌, ◌++◌, sym, refl, ap, ◌∙◌, arith}
+use Rattle.std.proofs.Common.{◌≡◌, Bool, true, false, cond, not, ◌||◌, List, [], ◌∷◌, ◌++◌, sym, refl, ap, ◌∙◌, arith}
 use Rattle.scale.specs.Semiring.{Ops, Semiring, Tells}
 use Rattle.table.specs.declared.node.Leaf.{Leaf}
 use Rattle.table.specs.Tree.{Tree, empty, leaf, either, then, repeat}

@@ -1,5 +1,5 @@
 -- The two strays: what each answers, and that ranges do not distribute. Assumes nothing.
-use Rattle.std.proofs.Common.{◌≡◌, ℕ, List, sym, ap, subst, arith}
+use Rattle.std.proofs.Common.{◌≡◌, ℕ, List, sym, ap, arith}
 use Rattle.session.specs.Strays.{Range, ends, product_of_sum, sum_of_products, RangesStray}
 
 pub ranges_stray : (answer : List ℕ) → answer ≡ ends → RangesStray answer

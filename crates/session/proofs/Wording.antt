@@ -1,5 +1,5 @@
 -- The marks of a word, symbol by symbol, and the root's weight after it. Assumes nothing.
-use Rattle.std.proofs.Common.{◌≡◌, ℕ, ◌+◌, ◌-◌, ◌*◌, ◌<◌, ◌≤◌, Bool, cond, eqb, List, [], ◌∷◌, ◌++◌, reverse, length, get_or, take, drop, sym, refl, ap, ◌∙◌, subst, arith}
+use Rattle.std.proofs.Common.{◌≡◌, ℕ, ◌-◌, ◌*◌, Bool, cond, eqb, List, [], ◌∷◌, ◌++◌, reverse, length, get_or, take, drop, sym, refl, ap, ◌∙◌, arith}
 use mathlib.Core.List.{reverse-append, reverse-reverse}
 use native.Mathlib.Nat.{sub-zero}
 use borrow.Rule.Slice.PartMut.{post_of}
@@ -12,9 +12,9 @@ use Rattle.table.specs.declared.node.Node.{Node}
 use Rattle.table.specs.Tree.{Tree, size, postfix, tree_of}
 use Rattle.table.proofs.Postfix.{size_pos, length_postfix, tree_of_postfix}
 use Rattle.readings.specs.Weights.{weight}
-use Rattle.session.specs.Marks.{Taken, taken, last_weight, live, marks, root_incoming, to_root}
+use Rattle.session.specs.Marks.{taken, last_weight, live, marks, root_incoming, to_root}
 use Rattle.session.specs.Shifts.{Fits, Shifted}
-use Rattle.session.specs.Words.{needed, root_place, marks_after, live_after, Follows, Marked}
+use Rattle.session.specs.Words.{needed, root_place, marks_after, Follows, Marked}
 use Rattle.session.proofs.Endings.{root_weight}
 use Rattle.session.proofs.Rooted.{rooted_long, rooted_empty, rooted_last, marks_rooted}
 

@@ -1,5 +1,5 @@
 -- What the marks of a pattern hold after some symbols: at every node, what the readings say. Assumes nothing.
-use Rattle.std.specs.Prelude.{ℕ, ◌+◌, Bool, true, false, cond, not, ◌||◌, List, [], ◌∷◌, ◌++◌}
+use Rattle.std.specs.Prelude.{ℕ, ◌+◌, Bool, false, cond, not, ◌||◌, List, [], ◌∷◌, ◌++◌}
 use Rattle.scale.specs.Semiring.{Ops}
 use Rattle.table.specs.declared.node.Leaf.{Leaf}
 use Rattle.table.specs.Tree.{Tree, empty, leaf, either, then, repeat}

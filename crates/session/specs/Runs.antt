@@ -5,7 +5,6 @@ use Rattle.table.specs.declared.node.Leaf.{Leaf}
 use Rattle.table.specs.declared.table.Table.{Table}
 use Rattle.table.specs.Content.{tree}
 use Rattle.readings.specs.Weights.{weight}
-use Rattle.session.specs.declared.fault.SessionFault.{SessionFault}
 use Rattle.session.specs.declared.turn.Ask.{Ask}
 use Rattle.session.specs.declared.turn.Ask.TheVariants.{Read, Weigh, Restart}
 use Rattle.session.specs.declared.turn.Reply.{Reply}

@@ -1,5 +1,5 @@
 -- What the mark functions promise each other. Assumes nothing.
-use Rattle.std.specs.Prelude.{◌≡◌, ℕ, ◌+◌, ◌*◌, ◌≤◌, Bool, List, [], ◌∷◌, length}
+use Rattle.std.specs.Prelude.{◌≡◌, ℕ, ◌+◌, ◌*◌, ◌≤◌, Bool, List, ◌∷◌, length}
 use Rattle.scale.specs.Semiring.{Ops}
 use Rattle.table.specs.declared.node.Leaf.{Leaf}
 use Rattle.table.specs.declared.node.Node.{Node}

@@ -1,17 +1,17 @@
 -- How the text goes on after each kind of atom. Assumes nothing.
-use Rattle.std.proofs.Common.{◌≡◌, ℕ, suc, ◌+◌, ◌<◌, ◌≤◌, Bool, true, false, eqb, leb, List, [], ◌∷◌, length, set, Some, None, Option, sym, refl, ap, ◌∙◌, subst, arith, lit≤, le-leb, true-eqb}
+use Rattle.std.proofs.Common.{◌≡◌, ℕ, ◌+◌, ◌<◌, ◌≤◌, Bool, true, false, eqb, List, [], ◌∷◌, length, set, None, Option, sym, refl, ap, ◌∙◌, arith, lit≤, le-leb, true-eqb}
 use borrow.Author.Tests.{lt-leb}
 use Rattle.table.specs.declared.node.Node.{Node}
 use Rattle.table.specs.Tree.{size, postfix}
 use Rattle.text.specs.declared.reader.Reached.{Reached}
 use Rattle.text.specs.declared.reader.Class.{Class}
-use Rattle.text.specs.declared.reader.Class.TheVariants.{Bar, Star, Open, Shut, Dot, Range, Right, Escape, Plain}
+use Rattle.text.specs.declared.reader.Class.TheVariants.{Plain}
 use Rattle.text.specs.Classes.{class_of}
-use Rattle.text.specs.Grammar.{Atom, unit, group, any, range, quoted, plain, once, Branch, Pattern, atom_tree}
-use Rattle.text.specs.Scan.{Level, must, opened, done, escape, low, dash, high, close, State, state, level, appended, joined, begin, only_if, step, feed, off, deep}
-use Rattle.text.specs.Steps.{outcome, There, Made, AtomRead}
+use Rattle.text.specs.Grammar.{Atom, any, range, quoted, plain, once, Branch, Pattern, atom_tree}
+use Rattle.text.specs.Scan.{Level, must, done, escape, low, dash, high, close, State, state, appended, begin, only_if, off}
+use Rattle.text.specs.Steps.{outcome, There, AtomRead}
 use Rattle.text.proofs.Complete.{feed_byte}
-use Rattle.text.proofs.Outcomes.{on, too_deep, stops, at_end, wants, feed_none}
+use Rattle.text.proofs.Outcomes.{on, stops, at_end, wants, feed_none}
 use Rattle.text.proofs.Laying.{single}
 
 only_at : (b : ℕ) (z : State) (c : ℕ) → (c ≡ b → ⊥) → only_if (eqb c b) z ≡ None

@@ -1,10 +1,10 @@
 -- A text of the grammar is read to its end, and comes to its own pattern. Assumes nothing.
-use Rattle.std.proofs.Common.{◌≡◌, ℕ, ◌≤◌, true, leb, List, [], ◌∷◌, ◌++◌, Some, None, Option, sym, refl, ap, ◌∙◌, arith, lit≤, le-leb}
+use Rattle.std.proofs.Common.{◌≡◌, ℕ, ◌≤◌, List, [], ◌∷◌, Some, None, Option, refl, ap, ◌∙◌, arith, lit≤, le-leb}
 use Rattle.text.specs.declared.reader.Class.{Class}
 use Rattle.text.specs.declared.reader.Class.TheVariants.{Bar, Star, Open, Shut, Dot, Range, Right, Escape, Plain}
 use Rattle.text.specs.Classes.{class_of}
 use Rattle.text.specs.Grammar.{Atom, unit, group, any, range, quoted, plain, Piece, once, star, Branch, one, more, Pattern, only, or, atom_text, piece_text, branch_text, text, AtomLawful, PieceLawful, BranchLawful, Lawful}
-use Rattle.text.specs.Scan.{Level, Mode, must, opened, done, escape, low, dash, high, close, State, state, level, start, appended, starred, joined, begin, after_open, after_piece, only_if, step, feed}
+use Rattle.text.specs.Scan.{Level, Mode, must, opened, done, escape, low, high, close, State, state, level, start, appended, starred, joined, begin, after_open, after_piece, only_if, step, feed}
 use Rattle.text.proofs.Run.{run, run_none, run_step, run_append}
 
 -- the modes in which an atom may begin, with the pieces before it

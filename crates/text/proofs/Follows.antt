@@ -1,12 +1,12 @@
 -- What one byte more does to the text read so far, to its lawfulness and to its open brackets. Assumes nothing.
-use Rattle.std.proofs.Common.{◌≡◌, ℕ, suc, ◌≤◌, Bool, true, false, eqb, leb, List, [], ◌∷◌, ◌++◌, length, Some, None, Option, sym, refl, ap, ◌∙◌, subst, append_assoc, append-nil, true-eqb}
+use Rattle.std.proofs.Common.{◌≡◌, ℕ, ◌≤◌, Bool, true, false, eqb, leb, List, [], ◌∷◌, ◌++◌, length, Some, None, Option, sym, refl, ap, ◌∙◌, subst, append_assoc, append-nil, true-eqb}
 use borrow.Author.Tests.{true-leb}
 use Rattle.text.specs.declared.reader.Class.{Class}
 use Rattle.text.specs.declared.reader.Class.TheVariants.{Bar, Star, Open, Shut, Dot, Range, Right, Escape, Plain}
 use Rattle.text.specs.Classes.{class_of}
 use Rattle.text.specs.Depth.{Nest, nest, nest_by, nest_step}
-use Rattle.text.specs.Grammar.{Atom, unit, group, any, range, quoted, plain, Piece, once, star, Branch, one, more, Pattern, only, or, atom_text, piece_text, branch_text, text, AtomLawful, PieceLawful, BranchLawful, Lawful}
-use Rattle.text.specs.Scan.{Level, Mode, must, opened, done, escape, low, dash, high, close, State, state, level, start, appended, starred, joined, added, popped, begin, shut_unit, after_open, after_piece, only_if, step, feed}
+use Rattle.text.specs.Grammar.{Atom, unit, group, any, range, quoted, plain, Piece, once, Branch, one, more, Pattern, atom_text, piece_text, branch_text, text, AtomLawful, PieceLawful, BranchLawful, Lawful}
+use Rattle.text.specs.Scan.{Level, Mode, must, opened, done, escape, low, dash, high, close, State, state, appended, starred, joined, popped, begin, shut_unit, after_open, after_piece, only_if, step, feed}
 use Rattle.text.proofs.Bytes.{byte_is}
 
 -- the text that a state has read

@@ -1,12 +1,11 @@
 -- How the text goes on at an opening bracket. Assumes nothing.
-use Rattle.std.proofs.Common.{◌≡◌, ℕ, suc, ◌+◌, ◌*◌, ◌<◌, ◌≤◌, List, [], ◌∷◌, length, Some, None, Option, sym, refl, ap, ◌∙◌, subst, arith}
+use Rattle.std.proofs.Common.{◌≡◌, ℕ, ◌+◌, ◌<◌, ◌≤◌, List, ◌∷◌, length, None, Option, refl, ◌∙◌, arith}
 use Rattle.table.specs.declared.node.Node.{Node}
-use Rattle.table.specs.Tree.{Tree}
 use Rattle.text.specs.declared.reader.Reached.{Reached}
 use Rattle.text.specs.declared.reader.Stop.{Stop}
 use Rattle.text.specs.Grammar.{unit, group, once, Branch, Pattern}
-use Rattle.text.specs.Scan.{Level, must, opened, done, State, state, level, appended, joined, off, deep}
-use Rattle.text.specs.Steps.{outcome, stopped, There, Made, AtomRead, PatternRead, PatternStops}
+use Rattle.text.specs.Scan.{Level, must, opened, done, state, level, appended, joined, off, deep}
+use Rattle.text.specs.Steps.{outcome, stopped, There, AtomRead, PatternRead, PatternStops}
 use Rattle.text.proofs.Outcomes.{on, too_deep, at_end, begins_group}
 
 abbrev reached : ℕ → ℕ → Reached

@@ -1,11 +1,11 @@
 -- What each loop of the reader has read so far, and one turn more. Assumes nothing.
-use Rattle.std.proofs.Common.{◌≡◌, ℕ, ◌+◌, ◌-◌, ◌*◌, ◌<◌, ◌≤◌, Bool, true, false, ◌⊎◌, List, [], ◌∷◌, length, set, Some, None, Option, sym, refl, ap, ◌∙◌, subst, arith}
+use Rattle.std.proofs.Common.{◌≡◌, ℕ, ◌+◌, ◌-◌, ◌*◌, ◌<◌, ◌≤◌, ◌⊎◌, List, length, set, Some, None, Option, sym, refl, ap, ◌∙◌, subst, arith}
 use Rattle.table.specs.declared.node.Node.{Node}
 use Rattle.table.specs.Tree.{Tree, then, either, repeat, inner}
 use Rattle.text.specs.declared.reader.Reached.{Reached}
-use Rattle.text.specs.Grammar.{Atom, Piece, once, star, Branch, one, more, Pattern, or, atom_tree, piece_tree, branch_tree, tree}
-use Rattle.text.specs.Scan.{Level, must, done, State, state, appended, starred, joined}
-use Rattle.text.specs.Steps.{outcome, There, Made, AtomRead, PieceRead, BranchRead, PatternRead, Ready}
+use Rattle.text.specs.Grammar.{Piece, once, star, Branch, one, more, Pattern, piece_tree, branch_tree, tree}
+use Rattle.text.specs.Scan.{Level, must, done, state, appended, joined}
+use Rattle.text.specs.Steps.{outcome, There, Made, AtomRead, PieceRead, BranchRead}
 use Rattle.text.proofs.Complete.{starred_last}
 use Rattle.text.proofs.Outcomes.{on, begins_piece}
 use Rattle.text.proofs.Laying.{paired, starred_made}

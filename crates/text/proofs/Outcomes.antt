@@ -1,5 +1,5 @@
 -- What a text comes to, one byte further on. Assumes nothing.
-use Rattle.std.proofs.Common.{◌≡◌, ℕ, suc, ◌+◌, ◌<◌, ◌≤◌, Bool, true, false, eqb, leb, List, [], ◌∷◌, length, get_or, drop, Some, None, Option, sym, refl, ap, ◌∙◌, subst, ⊎_elim, arith, lit≤, le-leb, true-eqb}
+use Rattle.std.proofs.Common.{◌≡◌, ℕ, ◌+◌, ◌<◌, ◌≤◌, Bool, true, false, leb, List, length, get_or, drop, Some, None, Option, sym, refl, ap, ◌∙◌, ⊎_elim, lit≤, le-leb}
 use borrow.Author.Tests.{lt-leb}
 use Rattle.std.proofs.lemmas.List.{drop_more, drop_all}
 use Rattle.std.proofs.str.Laws.{order}
@@ -7,7 +7,7 @@ use Rattle.text.specs.declared.reader.Class.{Class}
 use Rattle.text.specs.declared.reader.Class.TheVariants.{Bar, Star, Open, Shut, Dot, Range, Right, Escape, Plain}
 use Rattle.text.specs.Classes.{class_of}
 use Rattle.text.specs.Grammar.{Branch, Pattern}
-use Rattle.text.specs.Scan.{Level, Mode, must, opened, done, dash, high, close, State, state, begin, after_open, after_piece, only_if, step, feed, Verdict, off, deep, ended, unless_deep, gone_on, finish}
+use Rattle.text.specs.Scan.{Level, must, opened, done, State, state, begin, after_open, after_piece, step, feed, Verdict, off, deep, ended, unless_deep, gone_on, finish}
 use Rattle.text.specs.Steps.{outcome, There}
 use Rattle.text.proofs.Bytes.{byte_is}
 

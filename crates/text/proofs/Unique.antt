@@ -1,12 +1,12 @@
 -- No text means two patterns, and only one answer fits a text. Assumes nothing.
-use Rattle.std.proofs.Common.{◌≡◌, ℕ, ◌+◌, ◌<◌, ◌≤◌, Bool, true, false, leb, List, [], ◌∷◌, length, take, Some, None, Ok, Err, Option, Result, sym, refl, ap, ◌∙◌, subst, ⊎_elim, arith, le-leb}
+use Rattle.std.proofs.Common.{◌≡◌, ℕ, ◌+◌, ◌≤◌, Bool, true, false, leb, List, length, take, Some, None, Ok, Err, Option, Result, sym, ap, ◌∙◌, ⊎_elim, arith, le-leb}
 use borrow.Author.Tests.{lt-leb}
 use Rattle.std.proofs.str.Laws.{order}
 use Rattle.table.specs.Tree.{size}
 use Rattle.text.specs.declared.fault.TextFault.{TextFault}
 use Rattle.text.specs.declared.fault.TextFault.TheVariants.{TooLong, OffGrammar, TooDeep, NodeCount, ShortList}
 use Rattle.text.specs.Depth.{open_after}
-use Rattle.text.specs.Grammar.{Atom, unit, Piece, once, Branch, one, Pattern, only, or, text, Lawful, tree}
+use Rattle.text.specs.Grammar.{unit, once, Branch, one, Pattern, only, tree}
 use Rattle.text.specs.Reads.{Means, Shares, Longest, Shallow, Fits, Answers}
 use Rattle.text.specs.Scan.{Mode, must, opened, done, escape, low, dash, high, close, State, start, joined, Verdict, good, off, deep, finish}
 use Rattle.text.specs.Steps.{sized}

@@ -7,13 +7,13 @@ use Rattle.text.specs.declared.reader.Class.{Class}
 use Rattle.text.specs.declared.reader.Class.TheVariants.{Bar, Star, Open, Shut, Dot, Range, Right, Escape, Plain}
 use Rattle.text.specs.Classes.{class_of}
 use Rattle.text.specs.Depth.{Nest, nest, nest_by, nest_step, nested, open_after}
-use Rattle.text.specs.Grammar.{Branch, Pattern, text, Lawful}
+use Rattle.text.specs.Grammar.{Pattern, text, Lawful}
 use Rattle.text.specs.Reads.{Means, Shares, Longest, Shallow}
-use Rattle.text.specs.Scan.{Level, Mode, must, opened, done, escape, low, dash, high, close, State, state, start, joined, feed, Verdict, good, off, deep, ended, unless_deep, gone_on, finish}
-use Rattle.text.proofs.Follows.{written, StateLawful, nest_of, joined_text, joined_lawful, Next, next}
-use Rattle.text.proofs.Viable.{Viable, viable}
+use Rattle.text.specs.Scan.{Level, Mode, must, opened, done, escape, low, dash, high, close, State, state, start, feed, Verdict, good, off, deep, ended, unless_deep, gone_on, finish}
+use Rattle.text.proofs.Follows.{written, StateLawful, nest_of, joined_text, joined_lawful, next}
+use Rattle.text.proofs.Viable.{viable}
 use Rattle.text.proofs.Run.{run, run_none, run_stuck, run_step, run_append}
-use Rattle.text.proofs.Complete.{text_run, alts_of, last_of}
+use Rattle.text.proofs.Complete.{text_run}
 
 -- what each verdict says of the text
 abbrev pub Holds : List ℕ → Verdict → Type 0

@@ -1,8 +1,8 @@
 -- Every state that is reached can be gone on from to a text of the grammar. Assumes nothing.
-use Rattle.std.proofs.Common.{◌≡◌, ℕ, ◌≤◌, true, leb, List, [], ◌∷◌, ◌++◌, Some, None, Option, sym, refl, ap, ◌∙◌, append_assoc, append-nil, arith, le-leb}
-use Rattle.text.specs.Grammar.{once, group, Branch, Pattern, text, BranchLawful, Lawful}
+use Rattle.std.proofs.Common.{◌≡◌, ℕ, ◌≤◌, List, [], ◌∷◌, ◌++◌, Some, Option, sym, refl, ap, ◌∙◌, append_assoc, append-nil, arith, le-leb}
+use Rattle.text.specs.Grammar.{once, group, Branch, Pattern, text, Lawful}
 use Rattle.text.specs.Scan.{Level, Mode, must, opened, done, escape, low, dash, high, close, State, state, appended, joined, feed}
-use Rattle.text.proofs.Follows.{written, StateLawful, OuterLawful, AltsLawful, joined_text, joined_lawful, appended_lawful, Next, next}
+use Rattle.text.proofs.Follows.{written, StateLawful, joined_text, joined_lawful, next}
 
 -- some text of the grammar begins with what a state has read
 pub record Viable (o : List Level) (a : Option Pattern) (m : Mode) : Type 0 where

@@ -1,5 +1,5 @@
 -- What reading the whole text answers, and what it leaves. Assumes nothing.
-use Rattle.std.proofs.Common.{◌≡◌, ℕ, ◌+◌, ◌<◌, ◌≤◌, Bool, true, eqb, leb, List, [], ◌∷◌, ◌++◌, length, take, drop, IfOk, Some, None, Ok, Err, Option, Result, sym, refl, ap, ◌∙◌, subst, ⊎_elim, arith, lit≤, le-leb}
+use Rattle.std.proofs.Common.{◌≡◌, ℕ, ◌<◌, ◌≤◌, leb, List, [], ◌++◌, length, take, drop, IfOk, None, Ok, Err, Result, sym, refl, ap, ◌∙◌, subst, ⊎_elim, arith, le-leb}
 use borrow.Author.Tests.{lt-leb}
 use Rattle.std.proofs.lemmas.List.{take_at}
 use Rattle.std.proofs.str.Laws.{order as below_or_not}
@@ -13,8 +13,8 @@ use Rattle.text.specs.declared.fault.TextFault.{TextFault}
 use Rattle.text.specs.Grammar.{Atom, unit, group, any, range, quoted, plain, Piece, once, star, Branch, one, more, Pattern, only, or, AtomLawful, PieceLawful, BranchLawful, Lawful, atom_tree, piece_tree, branch_tree, tree}
 use Rattle.text.specs.Reads as reads
 use Rattle.text.specs.Reads.{Means, Fits, Answers}
-use Rattle.text.specs.Scan.{state, start, done, joined, Verdict, good, off, deep, finish}
-use Rattle.text.specs.Steps.{outcome, stopped, fault_of, sized, There, laid, WholeRead, PatternRead, Made}
+use Rattle.text.specs.Scan.{state, start, done, joined, Verdict, good, off, deep}
+use Rattle.text.specs.Steps.{outcome, stopped, fault_of, sized, laid, WholeRead, PatternRead}
 use Rattle.text.specs.declared.reader.Reached.{Reached}
 use Rattle.text.specs.declared.reader.Stop.{Stop}
 use Rattle.text.specs.declared.reader.Stop.TheVariants.{Off, Deep}

@@ -1,5 +1,5 @@
 -- What a pattern text comes to byte by byte: the parts that are whole so far, and what may follow. Assumes nothing.
-use Rattle.std.specs.Prelude.{ℕ, ◌+◌, Bool, true, false, cond, List, [], ◌∷◌, length, Some, None, Option, ◌==◌, nat_le}
+use Rattle.std.specs.Prelude.{ℕ, ◌+◌, Bool, true, false, List, [], ◌∷◌, length, Some, None, Option, ◌==◌, nat_le}
 use Rattle.text.specs.declared.reader.Class.{Class}
 use Rattle.text.specs.declared.reader.Class.TheVariants.{Bar, Star, Open, Shut, Dot, Range, Right, Escape, Plain}
 use Rattle.text.specs.Classes.{class_of}

@@ -1,4 +1,4 @@
-use Rattle.std.proofs.Common.{◌≡◌, [], ◌∷◌, ◌++◌, map, take, sym, ap, ◌∙◌, rules}
+use Rattle.std.proofs.Common.{[], ◌∷◌, ◌++◌, map, take, sym, ap, ◌∙◌, rules}
 use Rattle.picture.proofs.show.shown_text.Goals as goal
 use Rattle.picture.specs.Words.{shown_byte}
 use Rattle.std.proofs.lemmas.List.{map_more, take_all}

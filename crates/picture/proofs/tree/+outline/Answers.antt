@@ -1,4 +1,4 @@
-use Rattle.std.proofs.Common.{◌≡◌, ◌++◌, string_bytes, refl, ap, ◌∙◌}
+use Rattle.std.proofs.Common.{◌++◌, string_bytes, refl, ap, ◌∙◌}
 use Rattle.picture.proofs.Trees.{outlined_more, outlined_none}
 use Rattle.picture.proofs.tree.+outline.Goals as goal
 use Rattle.picture.specs.Outline.{line_of}

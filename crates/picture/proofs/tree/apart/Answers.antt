@@ -1,4 +1,4 @@
-use Rattle.std.proofs.Common.{◌≡◌, take, drop, sym, ap, ◌∙◌}
+use Rattle.std.proofs.Common.{take, drop, sym, ap, ◌∙◌}
 use Rattle.picture.proofs.Trees.{parted_by, parted_none}
 use Rattle.picture.proofs.tree.apart.Goals as goal
 use Rattle.picture.proofs.tree.apart.Goals.{in-Some, in-None}

@@ -1,4 +1,4 @@
-use Rattle.std.proofs.Common.{◌≡◌, ◌*◌, [], ◌∷◌, ◌++◌, replicate, ap, ◌∙◌, append_assoc, arith}
+use Rattle.std.proofs.Common.{◌≡◌, ◌*◌, [], ◌∷◌, replicate, ap, ◌∙◌, append_assoc, arith}
 use lib.Utf8.{encode}
 use Rattle.picture.proofs.Lines.{two_more}
 use Rattle.picture.proofs.tree.line.Goals as goal

@@ -1,4 +1,3 @@
-use Rattle.std.proofs.Common.{◌≡◌, sym, ap, ◌∙◌}
 use Rattle.session.proofs.Lending.{lent_fits, lent_next, room_there, room_then}
 use Rattle.session.proofs.lent.mark_next.Goals as goal
 use Rattle.table.specs.Content.{tree}

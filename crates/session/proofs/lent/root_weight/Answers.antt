@@ -1,4 +1,4 @@
-use Rattle.std.proofs.Common.{◌≡◌, sym, refl, ap, ◌∙◌, arith}
+use Rattle.std.proofs.Common.{refl, arith}
 use Rattle.session.proofs.Lending.{few_from_end, root_read, room_there, room_then}
 use Rattle.session.proofs.lent.root_weight.Goals as goal
 use Rattle.table.proofs.Postfix.{size_pos}

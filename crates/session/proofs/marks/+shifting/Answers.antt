@@ -1,5 +1,5 @@
-use Rattle.std.proofs.Common.{◌≡◌, ◌+◌, ◌-◌, ◌*◌, length, get_or, take, drop, sym, refl, ap, ◌∙◌, subst, arith, length-drop, length-take}
-use Rattle.table.specs.Tree.{postfix, tree_of, size, leaf, leaf_of}
+use Rattle.std.proofs.Common.{◌≡◌, ◌-◌, ◌*◌, length, get_or, drop, sym, ap, ◌∙◌, arith, length-drop, length-take}
+use Rattle.table.specs.Tree.{postfix, tree_of, leaf, leaf_of}
 use Rattle.table.proofs.Postfix.{length_postfix}
 use Rattle.session.proofs.Arms.{empty_arm, still_arm}
 use Rattle.session.proofs.Shapes.{leaf_root, either_root, then_root, repeat_root, empty_single, has_operands, kind_is, lone_root, lone_size, root_last}

@@ -1,4 +1,4 @@
-use Rattle.std.proofs.Common.{◌≡◌, [], length, sym, refl, ap, ◌∙◌}
+use Rattle.std.proofs.Common.{[], length, refl, ap, ◌∙◌}
 use Rattle.session.proofs.Carrying.{turns_carried}
 use Rattle.session.proofs.run.run_both.Goals as goal
 use Rattle.session.specs.Sessions.{first_fault, room_fault}

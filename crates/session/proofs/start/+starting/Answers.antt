@@ -1,5 +1,5 @@
-use Rattle.std.proofs.Common.{◌≡◌, ◌+◌, ◌-◌, ◌*◌, length, take, drop, sym, refl, ap, ◌∙◌, subst, arith, length-drop, length-take}
-use Rattle.table.specs.Tree.{postfix, tree_of, size, repeat}
+use Rattle.std.proofs.Common.{◌≡◌, ◌-◌, ◌*◌, length, drop, sym, ap, ◌∙◌, subst, arith, length-drop, length-take}
+use Rattle.table.specs.Tree.{tree_of, size}
 use Rattle.table.proofs.Postfix.{length_postfix}
 use Rattle.readings.proofs.Sums.{weight_empty, weight_stop}
 use Rattle.session.specs.Marks.{empty_weight}

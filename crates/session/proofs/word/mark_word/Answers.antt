@@ -1,4 +1,4 @@
-use Rattle.std.proofs.Common.{◌≡◌, cond, sym, refl, ap, ◌∙◌}
+use Rattle.std.proofs.Common.{refl, ap, ◌∙◌}
 use Rattle.session.proofs.Lending.{lent_fits, room_there, room_then}
 use Rattle.session.proofs.Wording.{same_tree, word_marked}
 use Rattle.session.proofs.word.mark_word.Goals as goal

@@ -1,4 +1,4 @@
-use Rattle.std.proofs.Common.{◌≡◌, [], ◌∷◌, reverse, length, sym, refl, ap, ◌∙◌, arith, length-append}
+use Rattle.std.proofs.Common.{[], ◌∷◌, reverse, length, refl, arith, length-append}
 use Rattle.session.proofs.Holding.{held_below, live_few}
 use Rattle.session.proofs.session.Session.read.Goals as goal
 use Rattle.session.specs.Marks.{root_incoming, to_root}
