@@ -63,7 +63,7 @@ def own_names(root):
                 if not m or GOAL.search(line):
                     continue
                 word = m.group(4)
-                if word.startswith("let") or "=" in line.split(":")[0]:
+                if "=" in line.split(":")[0]:
                     continue
                 if "-" in word:
                     names.setdefault(word, p)
@@ -101,13 +101,15 @@ def in_clause(text):
 
 
 def turned(text, names, fields):
+    aliases = set(re.findall(r"(?m)^ *(?:ghost )?use [\w.+]+ as (\w+)", text)) - {"goal"}
+
     def one(m):
         w = m.group(0)
         if w not in names:
             return w
         if m.start() and text[m.start() - 1] == "." and w not in fields:
             before = re.search(r"([^\s(){}\[\],;]+)\.$", text[: m.start()])
-            module = before and re.fullmatch(r"(?:[\w'+-]+\.)*[A-Z]\w*|\w+s", before.group(1))
+            module = before and (before.group(1) in aliases or re.fullmatch(r"(?:[\w'+-]+\.)*[A-Z]\w*", before.group(1)))
             if not module or before.group(1).split(".")[0] in ("c", "w", "goal", "l", "g"):
                 return w
         return spelled(w)

@@ -9,11 +9,11 @@ use Rattle.readings.specs.Weights.{weight}
 abbrev pub byte : ℕ → Tree
 byte b = leaf (record { tag = 0; low = b; high = b }) 0
 
-abbrev pub letter-a : ℕ
-letter-a = 97
+abbrev pub letter_a : ℕ
+letter_a = 97
 
-abbrev pub letter-b : ℕ
-letter-b = 98
+abbrev pub letter_b : ℕ
+letter_b = 98
 
 -- b|b*
 abbrev pub one_or_many : ℕ → Tree
@@ -28,21 +28,21 @@ pub record CountedExamples : Type 0 where
   -- ()|() over no byte
   pub either_empty : byte_count (either empty empty) [] ≡ 2
   -- a|a* over a
-  pub one_or_many_a : byte_count (one_or_many letter-a) (letter-a ∷ []) ≡ 2
+  pub one_or_many_a : byte_count (one_or_many letter_a) (letter_a ∷ []) ≡ 2
   -- (a|a*)(b|b*) over ab
-  pub two_and_two : byte_count (then (one_or_many letter-a) (one_or_many letter-b)) (letter-a ∷ letter-b ∷ []) ≡ 4
+  pub two_and_two : byte_count (then (one_or_many letter_a) (one_or_many letter_b)) (letter_a ∷ letter_b ∷ []) ≡ 4
   -- (a|())* over a
-  pub repeat_either_empty : byte_count (repeat (either (byte letter-a) empty)) (letter-a ∷ []) ≡ 1
+  pub repeat_either_empty : byte_count (repeat (either (byte letter_a) empty)) (letter_a ∷ []) ≡ 1
   -- (a*)* over aa
-  pub repeat_repeat : byte_count (repeat (repeat (byte letter-a))) (letter-a ∷ letter-a ∷ []) ≡ 2
+  pub repeat_repeat : byte_count (repeat (repeat (byte letter_a))) (letter_a ∷ letter_a ∷ []) ≡ 2
 
 -- the six counts, in the same order
 abbrev pub worked : List ℕ
 worked =
     byte_count (repeat empty) []
     ∷ byte_count (either empty empty) []
-    ∷ byte_count (one_or_many letter-a) (letter-a ∷ [])
-    ∷ byte_count (then (one_or_many letter-a) (one_or_many letter-b)) (letter-a ∷ letter-b ∷ [])
-    ∷ byte_count (repeat (either (byte letter-a) empty)) (letter-a ∷ [])
-    ∷ byte_count (repeat (repeat (byte letter-a))) (letter-a ∷ letter-a ∷ [])
+    ∷ byte_count (one_or_many letter_a) (letter_a ∷ [])
+    ∷ byte_count (then (one_or_many letter_a) (one_or_many letter_b)) (letter_a ∷ letter_b ∷ [])
+    ∷ byte_count (repeat (either (byte letter_a) empty)) (letter_a ∷ [])
+    ∷ byte_count (repeat (repeat (byte letter_a))) (letter_a ∷ letter_a ∷ [])
     ∷ []

@@ -28,9 +28,9 @@ pub record Listed {S : Type 0} (passing : Leaf → S → Bool) : Type 0 where
   pub none_twice : (t : Tree) (w : List S) → Distinct (readings passing t w)
 
 -- the weight at yes is the accepting one exactly when there is a reading
-pub record YesTellsReading {S : Type 0} (passing : Leaf → S → Bool) (yes : Bool) : Type 0 where
-  pub accepted_is_read : (t : Tree) (w : List S) → weight yes_ops passing t w ≡ yes → (r : Reading) × Reads passing t w r
-  pub read_is_accepted : (t : Tree) (w : List S) (r : Reading) → Reads passing t w r → weight yes_ops passing t w ≡ yes
+pub record YesTellsReading {S : Type 0} (passing : Leaf → S → Bool) (accepting : Bool) : Type 0 where
+  pub accepted_is_read : (t : Tree) (w : List S) → weight yes_ops passing t w ≡ accepting → (r : Reading) × Reads passing t w r
+  pub read_is_accepted : (t : Tree) (w : List S) (r : Reading) → Reads passing t w r → weight yes_ops passing t w ≡ accepting
 
 -- the count is how many readings the list has, up to a cap; it is 1 exactly when there is one reading and no other
 pub record CountNumbersReadings {S : Type 0} (passing : Leaf → S → Bool) (cap : ℕ) : Type 0 where

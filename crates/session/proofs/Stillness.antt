@@ -18,14 +18,14 @@ or_right false b e = e
 neither : (a b : Bool) → a ≡ false → b ≡ false → (a || b) ≡ false
 neither a b e f = ap (λ x. x || b) e ∙ f
 
-not-false : (b : Bool) → not b ≡ false → b ≡ true
-not-false true e = refl
-not-false false e = sym e
+not_false : (b : Bool) → not b ≡ false → b ≡ true
+not_false true e = refl
+not_false false e = sym e
 
 module _ {W S : Type 0} (o : Ops W) (laws : Semiring o) (tells : Tells o) (passing : Leaf → S → Bool) where
   quiet_last : (t : Tree) (h : List (Taken W S)) → marked o passing t h ≡ false → last_weight o passing t h ≡ o.nothing
   quiet_last empty h m = last_empty o laws passing h
-  quiet_last (leaf l p) h m = tells.only_nothing _ (not-false _ m)
+  quiet_last (leaf l p) h m = tells.only_nothing _ (not_false _ m)
   quiet_last (either a b) h m =
       last_either o laws passing a b h ∙ (λ k. o.plus (quiet_last a h (or_left _ _ m) k) (quiet_last b h (or_right (marked o passing a h) _ m) k)) ∙ laws.sum_nothing o.nothing
   quiet_last (then a b) h m =

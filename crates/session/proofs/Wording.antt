@@ -46,12 +46,17 @@ module _ {W S : Type 0} (o : Ops W) (laws : Semiring o) (passing : Leaf → S �
       go [] = refl
       go (s ∷ back) = ap (λ b. cond b o.one o.nothing) (eqb-suc-zero (length back))
 
+  -- what comes in at the root with one symbol more
+  to_root_more : (s : S) (back : List S) → taken (root_incoming o passing back) s ∷ to_root o passing back ≡ to_root o passing (s ∷ back)
+  to_root_more s [] = refl
+  to_root_more s (r ∷ rs) = refl
+
   -- one symbol more
   pub follows : (t : Tree) (ms : List W) (held : ℕ) (s : S) (ms₁ : List W) (i : W) (n : ℕ) → i ≡ cond (eqb held 0) o.one o.nothing → Shifted o passing t ms i s ms₁ n → Follows o passing t ms held s ms₁ n
   follows t ms held s ms₁ i n is shifted w long are =
       let next = shifted (to_root o passing (reverse w)) are in
       let root = comes w held i long is in (
-        next.0 ∙ ap (λ x. marks o passing t (taken x s ∷ to_root o passing (reverse w))) root ∙ ap (λ l. marks o passing t (to_root o passing l)) (sym (reverse-append w (s ∷ []))),
+        next.0 ∙ ap (λ x. marks o passing t (taken x s ∷ to_root o passing (reverse w))) root ∙ ap (marks o passing t) (to_root_more s (reverse w)) ∙ ap (λ l. marks o passing t (to_root o passing l)) (sym (reverse-append w (s ∷ []))),
         next.1 ∙ ap (λ x. live o passing t x (to_root o passing (reverse w))) root,
       )
 

@@ -44,7 +44,8 @@ module _ {W S : Type 0} (o : Ops W) (passing : Leaf → S → Bool) where
 
   abbrev pub to_root : List S → List (Taken W S)
   to_root [] = []
-  to_root (s ∷ back) = taken (root_incoming back) s ∷ to_root back
+  to_root (s ∷ []) = taken o.one s ∷ []
+  to_root (s ∷ r ∷ rs) = taken o.nothing s ∷ to_root (r ∷ rs)
 
   -- some leaf below has a last weight that is not nothing
   abbrev pub marked : Tree → List (Taken W S) → Bool

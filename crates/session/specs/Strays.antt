@@ -4,7 +4,7 @@ use Rattle.scale.specs.declared.count.weight.Count.{Count}
 use Rattle.scale.specs.Counts.{count_ops}
 use Rattle.table.specs.Kinds.{byte_passing}
 use Rattle.table.specs.Tree.{Tree, then}
-use Rattle.readings.specs.Examples.{byte, letter-a}
+use Rattle.readings.specs.Examples.{byte, letter_a}
 use Rattle.session.specs.Marks.{Taken, taken, empty_weight, last_weight, to_right, to_root}
 
 -- where a reading lies, as a start and an end: product does not distribute over sum
@@ -39,8 +39,8 @@ sum_of_products = range_sum (range_product (range 3 4) (range 1 2)) (range_produ
 abbrev pub ends : List ℕ
 ends = product_of_sum.stop ∷ sum_of_products.stop ∷ []
 
-pub record RangesStray (answer : List ℕ) : Type 0 where
-  pub are : ends ≡ answer
+pub record RangesStray (ends : List ℕ) : Type 0 where
+  pub are : product_of_sum.stop ∷ sum_of_products.stop ∷ [] ≡ ends
   pub not_distributed : product_of_sum ≡ sum_of_products → ⊥
 
 -- a then whose right operand takes the left's mark of the same symbol: the symbol is read twice
@@ -55,20 +55,20 @@ abbrev pub then_last : Tree → Tree → List (Taken Count ℕ) → List (Taken 
 then_last a b h k = (count_ops.plus (count_ops.times (last_weight count_ops byte_passing a h) (empty_weight count_ops byte_passing b)) (last_weight count_ops byte_passing b k)).value
 
 abbrev pub one_a : List (Taken Count ℕ)
-one_a = to_root count_ops byte_passing (letter-a ∷ [])
+one_a = to_root count_ops byte_passing (letter_a ∷ [])
 
 -- aa after one a: by the readings, by the mark from before the symbol, and by the new mark
 abbrev pub by_readings : ℕ
-by_readings = (last_weight count_ops byte_passing (then (byte letter-a) (byte letter-a)) one_a).value
+by_readings = (last_weight count_ops byte_passing (then (byte letter_a) (byte letter_a)) one_a).value
 
 abbrev pub by_mark_before : ℕ
-by_mark_before = then_last (byte letter-a) (byte letter-a) one_a (to_right count_ops byte_passing (byte letter-a) one_a)
+by_mark_before = then_last (byte letter_a) (byte letter_a) one_a (to_right count_ops byte_passing (byte letter_a) one_a)
 
 abbrev pub by_new_mark : ℕ
-by_new_mark = then_last (byte letter-a) (byte letter-a) one_a (to_right_new (byte letter-a) one_a)
+by_new_mark = then_last (byte letter_a) (byte letter_a) one_a (to_right_new (byte letter_a) one_a)
 
 abbrev pub ways : List ℕ
 ways = by_readings ∷ by_mark_before ∷ by_new_mark ∷ []
 
 abbrev pub NewMarkStrays : List ℕ → Type 0
-NewMarkStrays answer = ways ≡ answer
+NewMarkStrays counts = by_readings ∷ by_mark_before ∷ by_new_mark ∷ [] ≡ counts
