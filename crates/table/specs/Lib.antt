@@ -1,4 +1,5 @@
 pub mod Kinds
+pub mod KindLaws
 pub mod Tree
 pub mod Faults
 pub mod Rules

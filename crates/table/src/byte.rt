@@ -1,6 +1,6 @@
 // Kind 1: the bytes of a line.
 ghost use Rattle.table.specs.Kinds.{byte_number, byte_admitted, byte_allowed, byte_passing, byte_any};
-ghost use Rattle.std.proofs.Common.{rules};
+ghost use Rattle.table.specs.KindLaws.{byte_any_admitted, byte_any_passed};
 
 use crate::node::Leaf;
 use crate::symbol::Symbol;
@@ -16,9 +16,9 @@ impl Symbol for u8 {
 
     ghost any = { byte_any };
 
-    ghost anyadmitted = { Prim.search rules };
+    ghost anyadmitted = { byte_any_admitted };
 
-    ghost anypassed = { Prim.search rules };
+    ghost anypassed = { byte_any_passed };
 
     fn kind() -> u8 {
         1

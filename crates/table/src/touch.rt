@@ -1,7 +1,7 @@
 // Kind 2: the touches of a timing pad, a button or the start signal.
 ghost use Rattle.std.specs.Prelude.{◌≡◌, true, false, [], ◌∷◌};
 ghost use Rattle.table.specs.Kinds.{touch_number, touch_admitted, touch_allowed, touch_passing, touch_any, PadBounds};
-ghost use Rattle.std.proofs.Common.{rules};
+ghost use Rattle.table.specs.KindLaws.{touch_any_admitted, touch_any_passed};
 
 use crate::node::Leaf;
 use crate::symbol::Symbol;
@@ -25,9 +25,9 @@ impl Symbol for Touch {
 
     ghost any = { touch_any };
 
-    ghost anyadmitted = { Prim.search rules };
+    ghost anyadmitted = { touch_any_admitted };
 
-    ghost anypassed = { Prim.search rules };
+    ghost anypassed = { touch_any_passed };
 
     fn kind() -> u8 {
         2
