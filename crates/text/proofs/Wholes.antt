@@ -48,10 +48,10 @@ module _ (s : List ℕ) (before after : List Node) (to : Reached) (r : PatternRe
   )
 
 module _ (s : List ℕ) (before after : List Node) (n : ℕ) (short : length s ≤ 4096) (w : WholeRead s before after n) where
-  fits : Fits s w.0
+  pub fits : Fits s w.0
   fits = let h = told s (good w.0) w.1 in (short, h.0, h.1)
 
-  left : n ≤ length before → reads.Leaves s before (Ok n) after
+  pub left : n ≤ length before → reads.Leaves s before (Ok n) after
   left room q m =
       let same : q ≡ w.0 = unambiguous s q w.0 m fits.1 in
       let long : length (postfix (tree q)) ≡ n = length_postfix (tree q) ∙ ap (λ p. size (tree p)) same ∙ sym w.2 in
