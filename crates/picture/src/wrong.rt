@@ -97,19 +97,23 @@ fn mark_line(heap: Global, place: Option<usize>) -> Result<String, AllocError>
     ensures { IfOk result (λ s. string_bytes s ≡ mark_line place) }
 {
     match place {
-        Some(at) => mark(heap, at),
+        Some(at) => {
+            let mut line = mark(heap, at)?;
+            line.push('\n')?;
+            Ok(line)
+        }
         None => Ok(String::new(heap)),
     }
 }
 
 // A mark under a place of the line above.
 fn mark(heap: Global, place: usize) -> Result<String, AllocError>
-    ensures { IfOk result (λ s. string_bytes s ≡ replicate place 32 ++ (94 ∷ 10 ∷ [])) }
+    ensures { IfOk result (λ s. string_bytes s ≡ replicate place 32 ++ 94 ∷ []) }
 {
     let mut out = String::new(heap);
     for _ in 0..place {
         out.push(' ')?;
     }
-    out.push_str("^\n")?;
+    out.push('^')?;
     Ok(out)
 }

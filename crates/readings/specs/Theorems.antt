@@ -1,5 +1,5 @@
 -- What is proved about readings and weights, one statement for each public function. Assumes nothing.
-use Rattle.std.specs.Prelude.{◌≡◌, ℕ, ◌≤◌, min, Bool, true, List, length}
+use Rattle.std.specs.Prelude.{◌≡◌, ℕ, ◌≤◌, min, Bool, List, length}
 use Rattle.scale.specs.Semiring.{Ops}
 use Rattle.scale.specs.Yes.{yes_ops}
 use Rattle.scale.specs.Counts.{count_ops}
@@ -10,16 +10,6 @@ use Rattle.table.specs.declared.node.Leaf.{Leaf}
 use Rattle.table.specs.Tree.{Tree}
 use Rattle.readings.specs.Readings.{Reading, Reads}
 use Rattle.readings.specs.Weights.{readings, weight, In, Distinct, LeafPrices, Least}
-
--- the weight at yes of an accepted word, the cap of counts, and the length up to which no sum of prices stops
-abbrev pub accepting : Bool
-accepting = true
-
-abbrev pub count_cap : ℕ
-count_cap = 4_294_967_295
-
-abbrev pub longest_priced : ℕ
-longest_priced = 65_535
 
 -- a reading stands in the list exactly when it is one of the pattern over the word, and none stands twice
 pub record Listed {S : Type 0} (passing : Leaf → S → Bool) : Type 0 where

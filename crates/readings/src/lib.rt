@@ -3,7 +3,7 @@
 #![tactic(auto)]
 
 ghost use Rattle.readings.specs.Examples.{CountedExamples, worked};
-ghost use Rattle.readings.specs.Theorems.{CountNumbersReadings, Listed, PairWeighsEach, PriceLeastOfReadings, YesTellsReading, accepting, count_cap, longest_priced};
+ghost use Rattle.readings.specs.Theorems.{CountNumbersReadings, Listed, PairWeighsEach, PriceLeastOfReadings, YesTellsReading};
 ghost use Rattle.scale.specs.Pairs.{pair};
 ghost use Rattle.std.specs.Prelude.{◌≡◌};
 
@@ -14,12 +14,6 @@ use table::Symbol;
 pub fn yes_of_some_reading<S: Symbol>() -> bool
     ensures { YesTellsReading S.Symbol.passing result }
 {
-    accepting_weight()
-}
-
-fn accepting_weight() -> bool
-    ensures { result ≡ accepting }
-{
     true
 }
 
@@ -29,12 +23,6 @@ pub fn cap_of_counts<S: Symbol>() -> u32
     ensures listed { Listed S.Symbol.passing }
     ensures number { CountNumbersReadings S.Symbol.passing result }
 {
-    greatest_count()
-}
-
-fn greatest_count() -> u32
-    ensures { result ≡ count_cap }
-{
     4_294_967_295
 }
 
@@ -42,24 +30,12 @@ fn greatest_count() -> u32
 pub fn longest_priced_word<S: Symbol>() -> usize
     ensures { PriceLeastOfReadings S.Symbol.passing result }
 {
-    greatest_length()
-}
-
-fn greatest_length() -> usize
-    ensures { result ≡ longest_priced }
-{
     65_535
 }
 
 // What a word weighs at a pair of scales, from what it weighs at each.
 pub fn weight_at_both<A: Scale, B: Scale, S: Symbol>(first: A, second: B) -> Pair<A, B>
     ensures { PairWeighsEach A.Scale.ops B.Scale.ops S.Symbol.passing first second result }
-{
-    both(first, second)
-}
-
-fn both<A: Scale, B: Scale>(first: A, second: B) -> Pair<A, B>
-    ensures { result ≡ pair first second }
 {
     Pair { first, second }
 }

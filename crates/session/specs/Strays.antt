@@ -36,9 +36,6 @@ product_of_sum = range_product (range 3 4) (range_sum (range 1 2) (range 2 5))
 abbrev pub sum_of_products : Range
 sum_of_products = range_sum (range_product (range 3 4) (range 1 2)) (range_product (range 3 4) (range 2 5))
 
-abbrev pub ends : List ℕ
-ends = product_of_sum.stop ∷ sum_of_products.stop ∷ []
-
 pub record RangesStray (ends : List ℕ) : Type 0 where
   pub are : product_of_sum.stop ∷ sum_of_products.stop ∷ [] ≡ ends
   pub not_distributed : product_of_sum ≡ sum_of_products → ⊥
@@ -66,9 +63,6 @@ by_mark_before = then_last (byte letter_a) (byte letter_a) one_a (to_right count
 
 abbrev pub by_new_mark : ℕ
 by_new_mark = then_last (byte letter_a) (byte letter_a) one_a (to_right_new (byte letter_a) one_a)
-
-abbrev pub ways : List ℕ
-ways = by_readings ∷ by_mark_before ∷ by_new_mark ∷ []
 
 abbrev pub NewMarkStrays : List ℕ → Type 0
 NewMarkStrays counts = by_readings ∷ by_mark_before ∷ by_new_mark ∷ [] ≡ counts

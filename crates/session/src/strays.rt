@@ -1,17 +1,10 @@
 // Two ways that do not work, with the numbers that show it.
-ghost use Rattle.session.specs.Strays.{NewMarkStrays, RangesStray, ends, ways};
-ghost use Rattle.std.specs.Prelude.{◌≡◌};
+ghost use Rattle.session.specs.Strays.{NewMarkStrays, RangesStray};
 
 // Start and end of a reading, with leftmost then longest as the sum, are no scale: where (3,4) × ((1,2) + (2,5)) ends,
 // and where (3,4) × (1,2) + (3,4) × (2,5) does.
 pub fn ends_of_ranges() -> [u32; 2]
     ensures { RangesStray result }
-{
-    two_ends()
-}
-
-fn two_ends() -> [u32; 2]
-    ensures { result ≡ ends }
 {
     [2, 5]
 }
@@ -20,12 +13,6 @@ fn two_ends() -> [u32; 2]
 // new mark, which reads the symbol twice.
 pub fn new_mark_counts() -> [u32; 3]
     ensures { NewMarkStrays result }
-{
-    three_ways()
-}
-
-fn three_ways() -> [u32; 3]
-    ensures { result ≡ ways }
 {
     [0, 0, 1]
 }

@@ -9,7 +9,6 @@ use Rattle.text.specs.Depth.{open_after}
 use Rattle.text.specs.Grammar.{unit, once, Branch, one, Pattern, only, tree}
 use Rattle.text.specs.Reads.{Means, Shares, Longest, Shallow, Fits, Answers}
 use Rattle.text.specs.Scan.{Mode, must, opened, done, escape, low, dash, high, close, State, start, joined, Verdict, good, off, deep, finish}
-use Rattle.text.specs.Steps.{sized}
 use Rattle.text.proofs.Complete.{text_run, joined_parts}
 use Rattle.text.proofs.Run.{run}
 use Rattle.text.proofs.Verdicts.{Holds, finish_holds}
@@ -58,6 +57,11 @@ module _ (s : List ℕ) where
       (λ ge. ⊎_elim (λ lt. absurd (clash s k (p + 1) h.1 (omega arith) e)) (λ le. omega arith) (order p k)) (order k p))
 
 -- the answer that the length, the room and the verdict lead to
+abbrev sized : Bool → Bool → ℕ → Result ℕ TextFault
+sized false r n = Err (NodeCount n)
+sized true false n = Err (ShortList n)
+sized true true n = Ok n
+
 abbrev from_verdict : ℕ → Verdict → Result ℕ TextFault
 from_verdict room (good q) = sized (leb (size (tree q)) 512) (leb (size (tree q)) room) (size (tree q))
 from_verdict room (off p) = Err (OffGrammar p)

@@ -1,8 +1,6 @@
 -- What reading the whole text answers, and what it leaves. Assumes nothing.
-use Rattle.std.proofs.Common.{◌≡◌, ℕ, ◌<◌, ◌≤◌, leb, List, [], ◌++◌, length, take, drop, IfOk, None, Ok, Err, Result, sym, refl, ap, ◌∙◌, subst, ⊎_elim, arith, le-leb}
-use borrow.Author.Tests.{lt-leb}
+use Rattle.std.proofs.Common.{◌≡◌, ℕ, ◌<◌, ◌≤◌, List, [], ◌++◌, length, take, drop, None, Ok, Err, sym, refl, ap, ◌∙◌, subst, arith, le-leb}
 use Rattle.std.proofs.lemmas.List.{take_at}
-use Rattle.std.proofs.str.Laws.{order as below_or_not}
 use Rattle.table.specs.declared.node.Node.{Node}
 use Rattle.table.specs.Kinds.{byte_admitted}
 use Rattle.table.specs.Rules.{verdict, Leaves}
@@ -14,7 +12,7 @@ use Rattle.text.specs.Grammar.{Atom, unit, group, any, range, quoted, plain, Pie
 use Rattle.text.specs.Reads as reads
 use Rattle.text.specs.Reads.{Means, Fits, Answers}
 use Rattle.text.specs.Scan.{state, start, done, joined, Verdict, good, off, deep}
-use Rattle.text.specs.Steps.{outcome, stopped, fault_of, sized, laid, WholeRead, PatternRead}
+use Rattle.text.specs.Steps.{outcome, stopped, fault_of, laid, WholeRead, PatternRead}
 use Rattle.text.specs.declared.reader.Reached.{Reached}
 use Rattle.text.specs.declared.reader.Stop.{Stop}
 use Rattle.text.specs.declared.reader.Stop.TheVariants.{Off, Deep}
@@ -56,17 +54,6 @@ module _ (s : List ℕ) (before after : List Node) (n : ℕ) (short : length s �
       let same : q ≡ w.0 = unambiguous s q w.0 m fits.1 in
       let long : length (postfix (tree q)) ≡ n = length_postfix (tree q) ∙ ap (λ p. size (tree p)) same ∙ sym w.2 in
       w.3 ∙ ap (λ p. laid before 0 (postfix (tree p))) (sym same) ∙ laid_all before (postfix (tree q)) (omega arith) ∙ ap (λ k. postfix (tree q) ++ drop k before) long
-
-  -- what the number of nodes comes to
-  abbrev Sized : Result ℕ TextFault → Type 0
-  Sized r = Answers s (length before) r × IfOk r (λ m. reads.Leaves s before (Ok m) after)
-
-  pub sized_answers : (r : Result ℕ TextFault) → r ≡ sized (leb n 512) (leb n (length before)) n → Sized r
-  sized_answers r e =
-      let too_many : 512 < n → Sized (sized (leb n 512) (leb n (length before)) n) = λ h. rw (lt-leb n 512 h) ((w.0, fits, w.2, h), tt) in
-      let no_room : n ≤ 512 → length before < n → Sized (sized (leb n 512) (leb n (length before)) n) = λ h k. rw (le-leb n 512 h, lt-leb n (length before) k) ((w.0, fits, w.2, h, k), tt) in
-      let held : n ≤ 512 → n ≤ length before → Sized (sized (leb n 512) (leb n (length before)) n) = λ h k. rw (le-leb n 512 h, le-leb n (length before) k) ((w.0, fits, w.2, h, k), left k) in
-      subst Sized (sym e) (⊎_elim too_many (λ h. ⊎_elim (no_room h) (held h) (below_or_not (length before) n)) (below_or_not 512 n))
 
 -- the leaves of a text of the grammar are lawful for bytes
 mutual

@@ -1,9 +1,9 @@
 -- What the reader's own functions promise each other, by the states of a scan. Assumes nothing.
-use Rattle.std.specs.Prelude.{◌≡◌, ℕ, ◌+◌, ◌*◌, ◌<◌, ◌≤◌, Bool, true, false, ◌⊎◌, List, [], ◌∷◌, length, drop, None, Ok, Err, Option, Result, slice_index_or, slice_set}
+use Rattle.std.specs.Prelude.{◌≡◌, ℕ, ◌+◌, ◌*◌, ◌<◌, ◌≤◌, ◌⊎◌, List, [], ◌∷◌, length, drop, None, Option, slice_index_or, slice_set}
 use Rattle.table.specs.declared.node.Node.{Node}
 use Rattle.table.specs.Tree.{Tree, size, postfix}
 use Rattle.text.specs.declared.fault.TextFault.{TextFault}
-use Rattle.text.specs.declared.fault.TextFault.TheVariants.{OffGrammar, TooDeep, NodeCount, ShortList}
+use Rattle.text.specs.declared.fault.TextFault.TheVariants.{OffGrammar, TooDeep}
 use Rattle.text.specs.declared.reader.Reached.{Reached}
 use Rattle.text.specs.declared.reader.Stop.{Stop}
 use Rattle.text.specs.declared.reader.Stop.TheVariants.{Off, Deep}
@@ -21,12 +21,6 @@ stopped (Deep p) = deep p
 abbrev pub fault_of : Stop → TextFault
 fault_of (Off p) = OffGrammar p
 fault_of (Deep p) = TooDeep p
-
--- so many nodes: a table may hold so many or not, and the lent list has room for them or not
-abbrev pub sized : Bool → Bool → ℕ → Result ℕ TextFault
-sized false r n = Err (NodeCount n)
-sized true false n = Err (ShortList n)
-sized true true n = Ok n
 
 -- the byte b stands at place i
 pub record There (s : List ℕ) (i b : ℕ) : Type 0 where

@@ -1,5 +1,5 @@
 // The reader: pattern, branch, piece and atom, each a function, in one pass over the text.
-ghost use Rattle.std.specs.Prelude.{◌≡◌, ℕ, ◌+◌, ◌-◌, ◌<◌, ◌≤◌, length, take, IfOk, None, Ok, MatchBool, Result as Answer, MatchResult, nat_le, slice_set};
+ghost use Rattle.std.specs.Prelude.{◌≡◌, ℕ, ◌+◌, ◌-◌, ◌<◌, ◌≤◌, length, take, IfOk, None, Ok, MatchBool, Result as Answer, MatchResult, slice_set};
 ghost use Rattle.table.specs.Kinds.{byte_admitted};
 ghost use Rattle.table.specs.Rules.{verdict};
 ghost use Rattle.table.specs.Tree.{inner, leaf_node};
@@ -7,7 +7,7 @@ ghost use Rattle.text.specs.Classes.{class_of};
 ghost use Rattle.text.specs.Reads.{Answers, Leaves, Means};
 ghost use Rattle.text.specs.Scan.{start};
 ghost use Rattle.text.specs.Grammar.{Pattern};
-ghost use Rattle.text.specs.Steps.{AtomRead, PieceRead, BranchRead, PatternRead, AtomStops, BranchStops, PatternStops, Ready, There, WholeRead, fault_of, outcome, sized, stopped};
+ghost use Rattle.text.specs.Steps.{AtomRead, PieceRead, BranchRead, PatternRead, AtomStops, BranchStops, PatternStops, Ready, There, WholeRead, fault_of, outcome, stopped};
 
 use crate::fault::TextFault;
 use table::{BLANK, EITHER, EMPTY, LEAF, MOST_NODES, Node, REPEAT, THEN};
@@ -97,30 +97,17 @@ fn read_nodes(text: &[u8], nodes: &mut [Node]) -> Result<usize, TextFault>
     ensures answer { Answers text.now (length nodes.old) result }
     ensures after { IfOk result (λ n. Leaves text.now nodes.old (Ok n) nodes.new) }
 {
-    if is_too_long(text) {
+    if text.len() > MOST_BYTES {
         return Err(TextFault::TooLong);
     }
-    match whole(text, nodes) {
-        Ok(count) => sized(count, nodes.len()),
-        Err(stop) => Err(fault_of(stop)),
-    }
-}
-
-// Whether a text has more bytes than are allowed.
-fn is_too_long(text: &[u8]) -> bool
-    ensures { MatchBool result (4096 < length text.now) (length text.now ≤ 4096) }
-{
-    text.len() > MOST_BYTES
-}
-
-// The number of nodes, where a table may hold so many and the lent list has room for them.
-fn sized(count: usize, room: usize) -> Result<usize, TextFault>
-    ensures { result ≡ sized (nat_le count 512) (nat_le count room) count }
-{
+    let count = match whole(text, nodes) {
+        Ok(count) => count,
+        Err(stop) => return Err(fault_of(stop)),
+    };
     if count > MOST_NODES {
         return Err(TextFault::NodeCount(count));
     }
-    if count > room {
+    if count > nodes.len() {
         return Err(TextFault::ShortList(count));
     }
     Ok(count)

@@ -1,6 +1,5 @@
-use Rattle.std.proofs.Common.{sym, ◌∙◌}
 use Rattle.readings.proofs.Theorems.{pair_weighs_each}
 use Rattle.readings.proofs.weight_at_both.Goals as goal
 
 pub returns : goal.returns
-returns g c t w l r = pair_weighs_each g.A.Scale.ops g.B.Scale.ops g.S.Symbol.passing c.args.first c.args.second t w l r ∙ sym c.both.ensures
+returns g c = pair_weighs_each g.A.Scale.ops g.B.Scale.ops g.S.Symbol.passing c.args.first c.args.second

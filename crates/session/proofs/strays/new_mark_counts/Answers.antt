@@ -1,5 +1,5 @@
-use Rattle.std.proofs.Common.{sym}
+use Rattle.session.proofs.Straying.{new_mark_strays}
 use Rattle.session.proofs.strays.new_mark_counts.Goals as goal
 
 pub returns : goal.returns
-returns c = sym c.three_ways.ensures
+returns c = new_mark_strays
