@@ -53,12 +53,12 @@ settled_plain lane line table room e b s d g none n c =
 -- an entry whose slip is struck
 settled_struck : (lane : ℕ) (line : List ℕ) (table : Table) (room : ℕ) (e : Entry) (b s : Sheet) → Entered lane line table room (Ok e) b s → (price : ℕ) (p : Slip) → e ≡ entries.Owed price p → (after : Sheet) → Moved p.lane Struck s after → NoneOf (is_owed b) → (n : ℕ) → n ≡ p.count → Settled lane line table room (Ok n) b after
 settled_struck lane line table room e b s d price p is after m none n c =
-    let due-slip = slip_due price p b.number lane (line_weight table line) (sym (ap outcome is) ∙ d.1) in
-    let same_count : n ≡ (line_weight table line).first.value = c ∙ ap (λ q. q.count) due-slip in
+    let due_slip = slip_due price p b.number lane (line_weight table line) (sym (ap outcome is) ∙ d.1) in
+    let same_count : n ≡ (line_weight table line).first.value = c ∙ ap (λ q. q.count) due_slip in
     let several : true ≡ more (placed (line_weight table line).first.value) = sym (ap (λ x. gives (Ok x)) is) ∙ gives_more e b.number lane (line_weight table line) d.1 in (
       d.0,
       same_count,
-      (λ k. by k due-slip same_count several),
+      (λ k. by k due_slip same_count several),
       ruling_owes lane line table room e b s d price p is strike tt after (slip_matches lane line table room e b s d price p is, m) none,
     )
   where
@@ -71,8 +71,8 @@ settled_struck lane line table room e b s d price p is after m none n c =
     over false y z w e = e
 
     by : (k : ℕ) → p ≡ new_slip b.number lane (line_weight table line).first.value → n ≡ (line_weight table line).first.value → true ≡ more (placed (line_weight table line).first.value) → filled after k ≡ cond (eqb k lane) (leb 1 n) (filled b k)
-    by k due-slip same_count several =
-        ap (λ st. not (same st Unfilled)) (m.stands k ∙ ap (λ l. cond (eqb k l) Struck (standing s k)) (ap (λ q. q.lane) due-slip))
+    by k due_slip same_count several =
+        ap (λ st. not (same st Unfilled)) (m.stands k ∙ ap (λ l. cond (eqb k l) Struck (standing s k)) (ap (λ q. q.lane) due_slip))
         ∙ two (eqb k lane) k (more_some _ several ∙ ap (leb 1) (sym same_count))
         ∙ over (eqb k lane) (leb 1 n) (filled s k) (filled b k) (moved_filled lane (line_weight table line).first.value b s d.2 k ∙ ap (λ i. cond (eqb k lane) (leb 1 i) (filled b k)) (sym same_count))
 

@@ -64,9 +64,9 @@ module _ (root : Node) (d : ℕ) (w0 : List ℕ) {nodes ops left right : List No
   alone n e =
       let s = same_from_push [] ops n root (e ∙ split) in
       let none : length ops ≡ 0 = ap length (sym s.0) in
-      let no-left = nil_from_length left (omega (arith, parts.long)) in
-      let no-right = nil_from_length right (omega (arith, parts.long)) in
-      third.none no-right ∙ second.none no-left ∙ first ∙ ap (λ m. w0 ++ line_of d (node_words m)) (sym s.1)
+      let no_left = nil_from_length left (omega (arith, parts.long)) in
+      let no_right = nil_from_length right (omega (arith, parts.long)) in
+      third.none no_right ∙ second.none no_left ∙ first ∙ ap (λ m. w0 ++ line_of d (node_words m)) (sym s.1)
 
   with_one : (a : Tree) (n : Node) → postfix a ++ (n ∷ []) ≡ nodes → w3 ≡ w0 ++ (line_of d (node_words n) ++ outlined (d + 1) a)
   with_one a n e =

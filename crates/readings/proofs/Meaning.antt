@@ -121,10 +121,10 @@ module _ {S : Type 0} (passing : Leaf → S → Bool) where
         (least_found (readings passing t w));
     lowest = low;
     none_at_top = λ top r h. below_top r h top;
-    top_at_none = λ no-reading.
+    top_at_none = λ no_reading.
         ⊎_elim
         (λ top. top)
-        (λ m. absurd (no-reading m.0 (listed_reads passing t w m.0 m.1)))
+        (λ m. absurd (no_reading m.0 (listed_reads passing t w m.0 m.1)))
         (least_found (readings passing t w));
   }
     where

@@ -4,7 +4,6 @@
 
 ghost use Rattle.readings.specs.Examples.{CountedExamples, worked};
 ghost use Rattle.readings.specs.Theorems.{CountNumbersReadings, Listed, PairWeighsEach, PriceLeastOfReadings, YesTellsReading};
-ghost use Rattle.scale.specs.Pairs.{pair};
 ghost use Rattle.std.specs.Prelude.{◌≡◌};
 
 use scale::{Pair, Scale};

@@ -119,15 +119,15 @@ module _ {W S : Type 0} (o : Ops W) (laws : Semiring o) (tells : Tells o) (passi
       let k = to_repeated o passing a h in
       let zs = three o passing (repeat a) h in
       let long = rooted_long (marks_rooted o passing a k) ∙ an in
-      let last-below : r ≡ last_weight o passing a k =
+      let last_below : r ≡ last_weight o passing a k =
       rx ∙ ap (λ l. get_or l (top - 2) r) p ∙ get_or_append_left (marks o passing a k) zs r (top - 2) (omega (arith, long, size_pos a)) ∙ ap (λ c. get_or (marks o passing a k) (c - 2) r) (sym an) ∙ rooted_last (marks_rooted o passing a k) r in
-      let onward : j ≡ o.plus i (last_weight o passing a k) = jx ∙ ap (o.plus i) last-below in
+      let onward : j ≡ o.plus i (last_weight o passing a k) = jx ∙ ap (o.plus i) last_below in
       let after = below k (only_part ms _ zs top p long) in
       let here = λ (t : W). taken t s ∷ k in
-      let ma-long : length ma ≡ top = ap length after.0 ∙ rooted_long (marks_rooted o passing a (here j)) ∙ an in
-      let top-last : v ≡ last_weight o passing a (here j) = vx ∙ in_only ms _ zs top p long ma ma-long v (top - 2) (omega (arith, size_pos a)) ∙ (λ d. get_or (after.0 d) (sym an d - 2) v) ∙ rooted_last (marks_rooted o passing a (here j)) v in
-      let top-flag : w ≡ flag_weight o passing a (here j) = wx ∙ in_only ms _ zs top p long ma ma-long w (top - 1) (omega (arith, size_pos a)) ∙ (λ d. get_or (after.0 d) (sym an d - 1) w) ∙ rooted_flag (marks_rooted o passing a (here j)) w in (
-        only_written ms _ zs top p long _ _ _ refl ma ma-long v w ∙ (λ d. after.0 d ++ (empty_weight o passing (repeat a) ∷ top-last d ∷ top-flag d ∷ []))
+      let ma_long : length ma ≡ top = ap length after.0 ∙ rooted_long (marks_rooted o passing a (here j)) ∙ an in
+      let top_last : v ≡ last_weight o passing a (here j) = vx ∙ in_only ms _ zs top p long ma ma_long v (top - 2) (omega (arith, size_pos a)) ∙ (λ d. get_or (after.0 d) (sym an d - 2) v) ∙ rooted_last (marks_rooted o passing a (here j)) v in
+      let top_flag : w ≡ flag_weight o passing a (here j) = wx ∙ in_only ms _ zs top p long ma ma_long w (top - 1) (omega (arith, size_pos a)) ∙ (λ d. get_or (after.0 d) (sym an d - 1) w) ∙ rooted_flag (marks_rooted o passing a (here j)) w in (
+        only_written ms _ zs top p long _ _ _ refl ma ma_long v w ∙ (λ d. after.0 d ++ (empty_weight o passing (repeat a) ∷ top_last d ∷ top_flag d ∷ []))
             ∙ (λ d. marks o passing a (here (onward d)) ++ (empty_weight o passing (repeat a) ∷ last_weight o passing a (here (onward d)) ∷ flag_weight o passing a (here (onward d)) ∷ []))
             ∙ ap (λ u. marks o passing a (to_repeated o passing a (taken i s ∷ h)) ++ (empty_weight o passing (repeat a) ∷ u ∷ flag_weight o passing (repeat a) (taken i s ∷ h) ∷ [])) (sym (last_repeat o laws passing a (taken i s ∷ h))),
         after.1 ∙ ap (λ t. live o passing a t k) onward,

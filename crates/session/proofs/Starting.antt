@@ -55,11 +55,11 @@ module _ {W S : Type 0} (o : Ops W) (tells : Tells o) (passing : Leaf → S → 
   -- one operand
   pub one_below : (a : Tree) (all ma : List W) (top : ℕ) → 3 * size a ≡ top → length all ≡ top + 3 → ma ≡ first_marks o passing a → Below o passing (repeat a) (ma ++ post_of 0 (top - 0) all)
   one_below a all ma top an long is =
-      let ma-long : length ma ≡ top = ap length is ∙ rooted_long (marks_rooted o passing a []) ∙ an in
-      let first-long : length (first_marks o passing a) ≡ top = rooted_long (marks_rooted o passing a []) ∙ an in
+      let ma_long : length ma ≡ top = ap length is ∙ rooted_long (marks_rooted o passing a []) ∙ an in
+      let first_long : length (first_marks o passing a) ≡ top = rooted_long (marks_rooted o passing a []) ∙ an in
       record {
-        long = length-append ma (post_of 0 (top - 0) all) ∙ omega (arith, length-drop (top - 0) all, ma-long, first-long);
-        are = take_at ma (post_of 0 (top - 0) all) (length (first_marks o passing a)) (ma-long ∙ sym first-long) ∙ is;
+        long = length-append ma (post_of 0 (top - 0) all) ∙ omega (arith, length-drop (top - 0) all, ma_long, first_long);
+        are = take_at ma (post_of 0 (top - 0) all) (length (first_marks o passing a)) (ma_long ∙ sym first_long) ∙ is;
       }
 
   -- both operands
@@ -77,20 +77,20 @@ module _ {W S : Type 0} (o : Ops W) (tells : Tells o) (passing : Leaf → S → 
     both_below ma mb x y ax bx xs ys =
         let a = left_of t in
         let b = right_of t in
-        let ma-long : length ma ≡ n = ap length ax ∙ rooted_long (marks_rooted o passing a []) ∙ an in
-        let mb-size : length mb ≡ 3 * size b = ap length bx ∙ rooted_long (marks_rooted o passing b []) in
-        let mb-long : length mb + n ≡ top = omega (arith, mb-size) in
+        let ma_long : length ma ≡ n = ap length ax ∙ rooted_long (marks_rooted o passing a []) ∙ an in
+        let mb_size : length mb ≡ 3 * size b = ap length bx ∙ rooted_long (marks_rooted o passing b []) in
+        let mb_long : length mb + n ≡ top = omega (arith, mb_size) in
         let rest = drop (top - n) (drop n all) in
         let rest_long : length rest ≡ 3 = length-drop (top - n) (drop n all) ∙ omega (arith, length-drop n all) in
         let written : put_mid n (top - n) (ma ++ post_of 0 (n - 0) all) mb ≡ (first_marks o passing a ++ first_marks o passing b) ++ rest =
-        both_written all _ _ _ n top parted left_long both_long ma ma-long mb mb-long ∙ (λ k. ax k ++ (bx k ++ rest)) ∙ sym (append_assoc (first_marks o passing a) (first_marks o passing b) rest) in
+        both_written all _ _ _ n top parted left_long both_long ma ma_long mb mb_long ∙ (λ k. ax k ++ (bx k ++ rest)) ∙ sym (append_assoc (first_marks o passing a) (first_marks o passing b) rest) in
         record {
           long = ap length written ∙ length-append (first_marks o passing a ++ first_marks o passing b) rest ∙ ap (λ k. length (first_marks o passing a ++ first_marks o passing b) + k) rest_long;
           are = ap (take (length (first_marks o passing a ++ first_marks o passing b))) written ∙ take_at (first_marks o passing a ++ first_marks o passing b) rest _ refl;
           left_empty =
-              xs ∙ in_left all _ _ _ n top parted left_long both_long ma ma-long mb mb-long x (n - 3) (omega (arith, size_pos a)) ∙ (λ k. get_or (ax k) (sym an k - 3) x) ∙ rooted_empty (marks_rooted o passing a []) x;
+              xs ∙ in_left all _ _ _ n top parted left_long both_long ma ma_long mb mb_long x (n - 3) (omega (arith, size_pos a)) ∙ (λ k. get_or (ax k) (sym an k - 3) x) ∙ rooted_empty (marks_rooted o passing a []) x;
           right_empty =
-              ys ∙ in_right all _ _ _ n top parted left_long both_long ma ma-long mb mb-long y (top - 3) (3 * size b - 3) (omega (arith, size_pos b)) (omega (arith, mb-size, size_pos b))
+              ys ∙ in_right all _ _ _ n top parted left_long both_long ma ma_long mb mb_long y (top - 3) (3 * size b - 3) (omega (arith, size_pos b)) (omega (arith, mb_size, size_pos b))
               ∙ ap (λ l. get_or l (3 * size b - 3) y) bx ∙ rooted_empty (marks_rooted o passing b []) y;
         }
 

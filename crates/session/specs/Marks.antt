@@ -38,14 +38,15 @@ module _ {W S : Type 0} (o : Ops W) (passing : Leaf → S → Bool) where
   to_repeated a (x ∷ h) = taken (o.plus x.incoming (last_weight a (to_repeated a h))) x.symbol ∷ to_repeated a h
 
   -- what comes in at the root: one with the first symbol, nothing later
-  abbrev pub root_incoming : List S → W
-  root_incoming [] = o.one
-  root_incoming (s ∷ back) = o.nothing
-
   abbrev pub to_root : List S → List (Taken W S)
   to_root [] = []
   to_root (s ∷ []) = taken o.one s ∷ []
   to_root (s ∷ r ∷ rs) = taken o.nothing s ∷ to_root (r ∷ rs)
+
+  -- what comes in there with the next symbol
+  abbrev pub root_incoming : List S → W
+  root_incoming [] = o.one
+  root_incoming (s ∷ back) = o.nothing
 
   -- some leaf below has a last weight that is not nothing
   abbrev pub marked : Tree → List (Taken W S) → Bool
