@@ -15,7 +15,7 @@ const LONE: Node = Node {
     price: 0,
 };
 
-const EITHER_OF_2: Node = Node {
+pub const EITHER_OF_2: Node = Node {
     kind: EITHER,
     tag: 0,
     size: 3,
@@ -33,7 +33,7 @@ const THEN_OF_2: Node = Node {
     price: 0,
 };
 
-const REPEAT_OF_1: Node = Node {
+pub const REPEAT_OF_1: Node = Node {
     kind: REPEAT,
     tag: 0,
     size: 2,

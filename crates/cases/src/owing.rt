@@ -1,4 +1,9 @@
 // Calls on a sheet with no lane owed or one, and what they answered.
+ghost use Rattle.std.specs.Prelude.{◌≡◌, ◌&&◌, ◌==◌, if◌then◌else◌};
+ghost use Rattle.sheet.specs.Calls.{Moved, Opened};
+ghost use Rattle.sheet.specs.Faults.{sheet_refusal};
+ghost use Rattle.sheet.specs.declared.standing.Standing.TheVariants.{Struck, Taken};
+
 use crate::settled::{Owing, Settled};
 use scale::{Count, Pair, Price};
 use sheet::{Entry, LaneSet, Returned, Sheet, Slip, StillOpen};
@@ -45,7 +50,11 @@ impl fmt::Display for Answer {
     }
 }
 
-pub fn note_of(slip: &Slip) -> Note {
+pub fn note_of(slip: &Slip) -> Note
+    ensures sheet { result.sheet ≡ slip.now.sheet }
+    ensures lane { result.lane ≡ slip.now.lane }
+    ensures count { result.count ≡ slip.now.count }
+{
     Note {
         sheet: slip.sheet(),
         lane: slip.lane(),
@@ -68,7 +77,9 @@ pub struct Lanes {
 }
 
 impl Settled {
-    pub fn open(number: u32) -> Settled {
+    pub fn open(number: u32) -> Settled
+        ensures { Opened number result.sheet }
+    {
         Settled {
             sheet: Sheet::open(number),
         }
@@ -96,7 +107,11 @@ impl Settled {
     }
 
     // Closes and prints.
-    pub fn close(self) -> Lanes {
+    pub fn close(self) -> Lanes
+        ensures clean { result.clean ≡ self.sheet.clean }
+        ensures taken { result.taken ≡ self.sheet.taken }
+        ensures struck { result.struck ≡ self.sheet.struck }
+    {
         let Settled { sheet } = self;
         match sheet.close() {
             Ok(closed) => {
@@ -114,7 +129,9 @@ impl Settled {
 }
 
 impl Owing {
-    pub fn take(self) -> Settled {
+    pub fn take(self) -> Settled
+        ensures { Moved self.slip.lane Taken self.sheet result.sheet }
+    {
         let Owing { mut sheet, slip } = self;
         match sheet.take(slip) {
             Ok(()) => Settled { sheet },
@@ -123,7 +140,9 @@ impl Owing {
         }
     }
 
-    pub fn strike(self) -> Settled {
+    pub fn strike(self) -> Settled
+        ensures { Moved self.slip.lane Struck self.sheet result.sheet }
+    {
         let Owing { mut sheet, slip } = self;
         match sheet.strike(slip) {
             Ok(()) => Settled { sheet },
@@ -133,7 +152,11 @@ impl Owing {
     }
 
     // Closes the sheet too early.
-    pub fn close(self) -> (Refusal, Owing) {
+    pub fn close(self) -> (Refusal, Owing)
+        ensures sheet { result.1.sheet ≡ self.sheet }
+        ensures slip { result.1.slip ≡ self.slip }
+        ensures refused { result.0 ≡ sheet_refusal 23 self.slip.lane }
+    {
         let Owing { sheet, slip } = self;
         match sheet.close() {
             // The slip's lane is owed.
@@ -189,7 +212,12 @@ impl Owing {
     }
 
     // Offers the slip to a sheet that owes nothing.
-    pub fn offer(self, other: Settled) -> (Refusal, Owing, Settled) {
+    pub fn offer(self, other: Settled) -> (Refusal, Owing, Settled)
+        ensures sheet { result.1.sheet ≡ self.sheet }
+        ensures slip { result.1.slip ≡ self.slip }
+        ensures other { result.2.sheet ≡ other.sheet }
+        ensures refused { result.0 ≡ sheet_refusal 22 self.slip.lane }
+    {
         let Owing { sheet, slip } = self;
         let Settled {
             sheet: mut stranger,
@@ -206,7 +234,12 @@ impl Owing {
     }
 
     // Two sheets with each other's slips, where number and lane agree.
-    pub fn exchange(self, other: Owing) -> (Owing, Owing) {
+    pub fn exchange(self, other: Owing) -> (Owing, Owing)
+        ensures first { result.0.sheet ≡ self.sheet }
+        ensures second { result.1.sheet ≡ other.sheet }
+        ensures own { result.0.slip ≡ (if self.slip.sheet == other.slip.sheet && self.slip.lane == other.slip.lane then other.slip else self.slip) }
+        ensures others { result.1.slip ≡ (if self.slip.sheet == other.slip.sheet && self.slip.lane == other.slip.lane then self.slip else other.slip) }
+    {
         let same_number = self.slip.sheet() == other.slip.sheet();
         let same_lane = self.slip.lane() == other.slip.lane();
         if !same_number || !same_lane {

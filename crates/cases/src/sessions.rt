@@ -1,10 +1,11 @@
 // Cases of sessions: successions of read, weigh and restart, at both kinds of symbol and at all four scales.
+use crate::judged::{EITHER_OF_2, REPEAT_OF_1};
 use crate::replies::{Signed, Weighed, refused, told};
 use scale::{Count, Pair, Price, Scale};
 use session::{Ask, Reply, Turn, WEIGHTS_PER_NODE, run_turns};
 use std::alloc::{AllocError, Global};
 use std::io;
-use table::{BLANK, EITHER, LEAF, MOST_NODES, Node, REPEAT, Symbol, Table, Touch};
+use table::{BLANK, LEAF, MOST_NODES, Node, Symbol, Table, Touch};
 
 // Patterns of bytes, of which the text says all.
 const TEXTS: [&str; 5] = ["(a|a*)(b|b*)", "(a*)*", "()*", "(a|())*", "a"];
@@ -43,24 +44,6 @@ const ANY: Node = Node {
     low: 0,
     high: 999_999,
     price: 9,
-};
-
-const EITHER_OF_2: Node = Node {
-    kind: EITHER,
-    tag: 0,
-    size: 3,
-    low: 0,
-    high: 0,
-    price: 0,
-};
-
-const REPEAT_OF_1: Node = Node {
-    kind: REPEAT,
-    tag: 0,
-    size: 2,
-    low: 0,
-    high: 0,
-    price: 0,
 };
 
 const REPEAT_OF_3: Node = Node {
