@@ -1,5 +1,5 @@
 -- What a checked table holds: its kind's number and its nodes. Assumes nothing.
-use Rattle.std.specs.Prelude.{ℕ, List, take}
+use Rattle.std.specs.Prelude.{ℕ, List}
 use Rattle.table.specs.declared.node.Node.{Node}
 use Rattle.table.specs.declared.table.Table.{Table}
 use Rattle.table.specs.Tree.{Tree, tree_of}
@@ -12,7 +12,7 @@ abbrev pub held : ℕ → List Node → Content
 held k ns = record { kind = k; nodes = ns }
 
 abbrev pub content : Table → Content
-content t = held t.kind (take t.len t.nodes)
+content t = held t.kind t.nodes.items
 
 -- the tree of a checked table: what every later definition speaks of
 abbrev pub tree : Table → Tree

@@ -1,8 +1,13 @@
 -- The number, place and layer of each fault that the judge finds. Assumes nothing.
-use Rattle.std.specs.Prelude.{ℕ, Some, None, Ok, Err, Option, Result}
+use Rattle.std.specs.Prelude.{ℕ, List, ◌∷◌, ◌++◌, Some, None, Ok, Err, Option, Result}
+use Rattle.std.specs.Fmt.{decimal}
 use Rattle.table.specs.declared.fault.Refusal.{Refusal}
 use Rattle.table.specs.declared.fault.TableFault.{TableFault}
 use Rattle.table.specs.declared.fault.TableFault.TheVariants.{NodeCount, BadNode, NoOperand, WrongSize, BadLeaf}
+
+-- a refusal's three numbers, parted by blanks
+abbrev pub refusal_text : Refusal → List ℕ
+refusal_text r = decimal r.number ++ 32 ∷ decimal r.place ++ 32 ∷ decimal r.layer
 
 abbrev pub table_refusal : ℕ → ℕ → Refusal
 table_refusal n p = record { number = n; place = p; layer = 2 }

@@ -1,5 +1,6 @@
 pub mod Kinds
 pub mod KindLaws
+pub mod NodeKinds
 pub mod Tree
 pub mod Faults
 pub mod Rules

@@ -33,7 +33,7 @@ impl Symbol for u8 {
     }
 
     fn passes(self, leaf: Leaf) -> bool {
-        let b = self as u32;
+        let b = u32::from(self);
         leaf.low <= b && b <= leaf.high
     }
 

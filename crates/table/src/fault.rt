@@ -1,6 +1,8 @@
 // Why a list of nodes is refused.
-ghost use Rattle.std.specs.Prelude.{◌≡◌};
-ghost use Rattle.table.specs.Faults.{refusal_of};
+ghost use Rattle.std.specs.Prelude.{◌≡◌, Some};
+ghost use Rattle.table.specs.Faults.{refusal_of, refusal_text};
+
+use std::fmt;
 
 // A refusal as it is written down: its number, its place, and the layer whose call refused.
 #[derive(Clone, Copy, PartialEq, Eq, Debug)]
@@ -8,6 +10,16 @@ pub struct Refusal {
     pub number: u8,
     pub place: usize,
     pub layer: u8,
+}
+
+// `5 2 2`: number, place and layer.
+impl fmt::Display for Refusal {
+    ghost output = { λ refusal. Some (refusal_text refusal) };
+
+    fn fmt<W: fmt::Write>(&self, f: &mut fmt::Formatter<W>) -> fmt::Result {
+        let (number, place, layer) = (self.number, self.place, self.layer);
+        write!(f, "{number} {place} {layer}")
+    }
 }
 
 // What the judge finds wrong. A place is the index of a node, from 0.
@@ -25,12 +37,11 @@ pub enum TableFault {
     BadLeaf(usize),
 }
 
-impl TableFault {
-    // The fault's number, place and layer.
-    pub fn refusal(self) -> Refusal
-        ensures { result ≡ refusal_of self }
-    {
-        let (number, place) = match self {
+impl From<TableFault> for Refusal {
+    ghost from_gives = { λ fault refusal. refusal ≡ refusal_of fault };
+
+    fn from(fault: TableFault) -> Refusal {
+        let (number, place) = match fault {
             TableFault::NodeCount(count) => (4, count),
             TableFault::BadNode(at) => (5, at),
             TableFault::NoOperand(at) => (6, at),
@@ -42,5 +53,14 @@ impl TableFault {
             place,
             layer: 2,
         }
+    }
+}
+
+impl TableFault {
+    // The fault's number, place and layer.
+    pub fn refusal(self) -> Refusal
+        ensures { result ≡ refusal_of self }
+    {
+        Refusal::from(self)
     }
 }

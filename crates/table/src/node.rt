@@ -1,19 +1,51 @@
 // One place of a pattern's list, and the part of a leaf that says which symbols pass it.
+ghost use Rattle.std.specs.Prelude.{◌≡◌};
+ghost use Rattle.table.specs.NodeKinds.{Decodes, number_of};
+ghost use Rattle.table.specs.Tree.{leaf_of};
 
 // The kinds of node.
-pub const EMPTY: u8 = 0;
+#[derive(Clone, Copy, PartialEq, Eq, Debug)]
+pub enum NodeKind {
+    Empty = 0,
+    Leaf = 1,
+    Either = 2,
+    Then = 3,
+    Repeat = 4,
+}
 
-pub const LEAF: u8 = 1;
+// A number that no kind of node has.
+#[derive(Clone, Copy, PartialEq, Eq, Debug)]
+pub struct UnknownKind(pub u8);
 
-pub const EITHER: u8 = 2;
+impl TryFrom<u8> for NodeKind {
+    type Error = UnknownKind;
 
-pub const THEN: u8 = 3;
+    ghost try_from_gives = { Decodes };
 
-pub const REPEAT: u8 = 4;
+    fn try_from(number: u8) -> Result<NodeKind, UnknownKind> {
+        match number {
+            0 => Ok(NodeKind::Empty),
+            1 => Ok(NodeKind::Leaf),
+            2 => Ok(NodeKind::Either),
+            3 => Ok(NodeKind::Then),
+            4 => Ok(NodeKind::Repeat),
+            _ => Err(UnknownKind(number)),
+        }
+    }
+}
+
+impl From<NodeKind> for u8 {
+    ghost from_gives = { λ kind n. n ≡ number_of kind };
+
+    fn from(kind: NodeKind) -> u8 {
+        kind as u8
+    }
+}
 
 // A node of a pattern in postfix order: its operands stand before it, and `size` counts it and their nodes.
 // `tag`, `low`, `high` and `price` belong to leaves, and are 0 in every other node.
-#[derive(Clone, Copy, PartialEq, Eq, Debug)]
+// A list comes from outside and may hold a kind that is unknown, so `kind` is a number.
+#[derive(Clone, Copy, PartialEq, Eq, Debug, Default)]
 pub struct Node {
     pub kind: u8,
     pub tag: u8,
@@ -25,7 +57,7 @@ pub struct Node {
 
 // The empty pattern's only node.
 pub const BLANK: Node = Node {
-    kind: EMPTY,
+    kind: NodeKind::Empty as u8,
     tag: 0,
     size: 1,
     low: 0,
@@ -39,4 +71,16 @@ pub struct Leaf {
     pub tag: u8,
     pub low: u32,
     pub high: u32,
+}
+
+impl From<Node> for Leaf {
+    ghost from_gives = { λ node leaf. leaf ≡ leaf_of node };
+
+    fn from(node: Node) -> Leaf {
+        Leaf {
+            tag: node.tag,
+            low: node.low,
+            high: node.high,
+        }
+    }
 }

@@ -1,25 +1,25 @@
 // The judge: which lists of nodes are checked tables, and what is wrong with the others.
-ghost use Rattle.std.specs.Prelude.{◌≡◌, ◌<◌, ◌≤◌, true, false, [], ◌∷◌, length, take, None, MatchOption, MatchResult, OnOk};
+ghost use Rattle.std.specs.Prelude.{◌≡◌, ◌-◌, ◌^◌, ◌<◌, ◌≤◌, true, false, [], ◌∷◌, length, None, MatchOption, MatchResult, OnOk};
 ghost use Rattle.table.specs.Content.{content, held, tree};
 ghost use Rattle.table.specs.Faults.{answered};
-ghost use Rattle.table.specs.Rules.{count_refusal, due, fed, first_wrong, last_refusal, node_at, node_refusal, verdict, wrong, Writes};
+ghost use Rattle.table.specs.NodeKinds.{number_of};
+ghost use Rattle.table.specs.Rules.{count_refusal, due, fed, first_wrong, last_refusal, node_refusal, size_at, verdict, wrong, Writes};
 ghost use Rattle.table.specs.Tree.{inner, postfix, tree_of, Tree};
 
 use crate::fault::TableFault;
-use crate::node::{BLANK, EITHER, LEAF, Leaf, Node, REPEAT, THEN};
+use crate::node::{BLANK, Leaf, Node, NodeKind};
 use crate::symbol::Symbol;
 use crate::table::{MOST_NODES, Table};
+use arrayvec::ArrayVec;
 
 impl Table {
     // A table of one empty node, for bytes.
     pub fn new() -> Table
         ensures { content result ≡ held 1 (inner 0 1 ∷ []) }
     {
-        Table {
-            nodes: [BLANK; 512],
-            len: 1,
-            kind: 1,
-        }
+        let mut nodes = ArrayVec::new();
+        nodes.push(BLANK);
+        Table { nodes, kind: 1 }
     }
 
     // Judges a list for a kind of symbol: fills the table with it, or says what is wrong first and leaves the table
@@ -31,21 +31,13 @@ impl Table {
         ensures alone { OnOk result ((t : Tree) → postfix t ≡ nodes.now → t ≡ tree self.new) }
     {
         judge_list::<S>(nodes)?;
-        *self = Table::holding(nodes, S::kind());
+        let mut held = ArrayVec::new();
+        held.try_extend_from_slice(nodes).unwrap();
+        *self = Table {
+            nodes: held,
+            kind: S::kind(),
+        };
         Ok(())
-    }
-
-    // A table of nodes that are judged already.
-    fn holding(nodes: &[Node], kind: u8) -> Table
-        requires few { length nodes.now ≤ 512 }
-        requires whole { postfix (tree_of nodes.now) ≡ nodes.now }
-        ensures { content result ≡ held kind nodes.now }
-    {
-        Table {
-            nodes: padded(nodes),
-            len: nodes.len(),
-            kind,
-        }
     }
 
     // The number of the kind that the table was judged for.
@@ -61,18 +53,8 @@ impl Table {
         ensures whole { postfix (tree self.now) ≡ result.now }
         ensures bound { (1 ≤ length result.now) × (length result.now ≤ 512) }
     {
-        &self.nodes[0..self.len]
+        self.nodes.as_slice()
     }
-}
-
-// The nodes at the front of a whole array.
-fn padded(nodes: &[Node]) -> [Node; 512]
-    requires { length nodes.now ≤ 512 }
-    ensures { take (length nodes.now) result ≡ nodes.now }
-{
-    let mut stored = [BLANK; 512];
-    stored[0..nodes.len()].copy_from_slice(nodes);
-    stored
 }
 
 // The whole list, with what its answer means.
@@ -81,6 +63,14 @@ fn judge_list<S: Symbol>(nodes: &[Node]) -> Result<(), TableFault>
     ensures means { (answered result ≡ None → Writes S.Symbol.admitted nodes.now) × (Writes S.Symbol.admitted nodes.now → answered result ≡ None) }
     ensures whole { OnOk result ((length nodes.now ≤ 512) × (postfix (tree_of nodes.now) ≡ nodes.now)) }
     ensures alone { (t : Tree) → postfix t ≡ nodes.now → t ≡ tree_of nodes.now }
+{
+    judge_steps::<S>(nodes)
+}
+
+// The count, node by node, and the last size.
+#[tactic(auto, using(crate::proofs::Verdicts::count_refused, crate::proofs::Verdicts::node_refused, crate::proofs::Verdicts::last_judged))]
+fn judge_steps<S: Symbol>(nodes: &[Node]) -> Result<(), TableFault>
+    ensures { answered result ≡ verdict S.Symbol.admitted nodes.now }
 {
     judge_count(nodes)?;
     judge_nodes::<S>(nodes)?;
@@ -98,6 +88,7 @@ fn judge_count(nodes: &[Node]) -> Result<(), TableFault>
 }
 
 // The nodes one by one, up to the first that is wrong.
+#[tactic(auto, using(crate::proofs::Verdicts::onward_more, crate::proofs::Verdicts::onward_refused))]
 fn judge_nodes<S: Symbol>(nodes: &[Node]) -> Result<(), TableFault>
     ensures { answered result ≡ first_wrong (wrong S.Symbol.admitted nodes.now) (length nodes.now) 0 }
 {
@@ -109,14 +100,14 @@ fn judge_nodes<S: Symbol>(nodes: &[Node]) -> Result<(), TableFault>
 
 // Whether the last node has all the others below it.
 fn judge_last(nodes: &[Node]) -> Result<(), TableFault>
-    requires { 1 ≤ length nodes.now }
     ensures { answered result ≡ last_refusal nodes.now }
 {
-    let last = nodes.len() - 1;
-    if nodes[last].size as usize != nodes.len() {
-        return Err(TableFault::WrongSize(last));
+    match nodes.last() {
+        Some(root) if usize::from(root.size) != nodes.len() => {
+            Err(TableFault::WrongSize(nodes.len() - 1))
+        }
+        _ => Ok(()),
     }
-    Ok(())
 }
 
 // One node against those before it.
@@ -125,51 +116,44 @@ fn judge_node<S: Symbol>(nodes: &[Node], at: usize) -> Result<(), TableFault>
     ensures { answered result ≡ node_refusal at (wrong S.Symbol.admitted nodes.now at) }
 {
     let node = nodes[at];
+    let Ok(kind) = NodeKind::try_from(node.kind) else {
+        return Err(TableFault::BadNode(at));
+    };
     let bare = node.tag == 0 && node.low == 0 && node.high == 0 && node.price == 0;
-    if node.kind > REPEAT || (node.kind != LEAF && !bare) {
+    if kind != NodeKind::Leaf && !bare {
         return Err(TableFault::BadNode(at));
     }
-    let Some(due) = due_size(nodes, at) else {
-        return Err(TableFault::NoOperand(at));
-    };
-    if node.size as usize != due {
+    let due = due_size(nodes, at, kind).ok_or(TableFault::NoOperand(at))?;
+    if usize::from(node.size) != due {
         return Err(TableFault::WrongSize(at));
     }
-    let leaf = Leaf {
-        tag: node.tag,
-        low: node.low,
-        high: node.high,
-    };
-    if node.kind == LEAF && !S::admits(leaf) {
+    if kind == NodeKind::Leaf && !S::admits(Leaf::from(node)) {
         return Err(TableFault::BadLeaf(at));
     }
     Ok(())
 }
 
-// The size that a node of known kind must have, or none where an operand is missing.
-fn due_size(nodes: &[Node], at: usize) -> Option<usize>
-    requires within { at < length nodes.now }
-    requires known { (node_at nodes.now at).kind ≤ 4 }
-    ensures { MatchOption result (fed nodes.now at (node_at nodes.now at).kind ≡ false) (λ d. (fed nodes.now at (node_at nodes.now at).kind ≡ true) × (d ≡ due nodes.now at (node_at nodes.now at).kind)) }
+// The size that a node of that kind must have at that place, or none where an operand is missing.
+fn due_size(nodes: &[Node], at: usize, kind: NodeKind) -> Option<usize>
+    requires { at < length nodes.now }
+    ensures { MatchOption result (fed nodes.now at (number_of kind) ≡ false) (λ d. (fed nodes.now at (number_of kind) ≡ true) × (d ≡ due nodes.now at (number_of kind))) }
 {
-    match nodes[at].kind {
-        EITHER | THEN => {
-            if at == 0 {
-                return None;
-            }
-            let right = nodes[at - 1].size as usize;
-            if at <= right {
-                return None;
-            }
-            let left = nodes[at - 1 - right].size as usize;
+    match kind {
+        NodeKind::Empty | NodeKind::Leaf => Some(1),
+        NodeKind::Repeat => Some(size_before(nodes, at)? + 1),
+        NodeKind::Either | NodeKind::Then => {
+            let right = size_before(nodes, at)?;
+            let left = size_before(nodes, at.checked_sub(right)?)?;
             Some(left + right + 1)
         }
-        REPEAT => {
-            if at == 0 {
-                return None;
-            }
-            Some(nodes[at - 1].size as usize + 1)
-        }
-        _ => Some(1),
     }
+}
+
+// The size of the node that ends just before a place.
+fn size_before(nodes: &[Node], end: usize) -> Option<usize>
+    requires { end ≤ length nodes.now }
+    ensures { MatchOption result (end ≡ 0) (λ s. (0 < end) × (s ≡ size_at nodes.now (end - 1)) × (s < 2 ^ 16)) }
+{
+    let last = end.checked_sub(1)?;
+    Some(usize::from(nodes[last].size))
 }
