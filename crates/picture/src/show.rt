@@ -3,7 +3,7 @@ ghost use Rattle.std.specs.Prelude.{◌≡◌, ◌<◌, map, IfOk, string_bytes}
 ghost use Rattle.picture.specs.Words.{printable, shown_byte, symbol, span, leaf_words, node_words};
 
 use std::alloc::{AllocError, Global};
-use table::{EITHER, EMPTY, LEAF, Node, REPEAT, THEN};
+use table::{Node, NodeKind};
 
 // Whether a byte is printable ASCII, the blank among it.
 pub fn is_printable(byte: u32) -> bool
@@ -51,14 +51,14 @@ fn named(heap: Global, byte: u32) -> Result<String, AllocError>
 pub fn words(heap: Global, node: &Node) -> Result<String, AllocError>
     ensures { IfOk result (λ s. string_bytes s ≡ node_words node.now) }
 {
-    match node.kind {
-        EMPTY => String::from_str(heap, "nothing"),
-        LEAF => leaf_words(heap, node.low, node.high),
-        EITHER => String::from_str(heap, "one of these two"),
-        THEN => String::from_str(heap, "these two in turn"),
-        REPEAT => String::from_str(heap, "any number of"),
+    match NodeKind::try_from(node.kind) {
+        Ok(NodeKind::Empty) => String::from_str(heap, "nothing"),
+        Ok(NodeKind::Leaf) => leaf_words(heap, node.low, node.high),
+        Ok(NodeKind::Either) => String::from_str(heap, "one of these two"),
+        Ok(NodeKind::Then) => String::from_str(heap, "these two in turn"),
+        Ok(NodeKind::Repeat) => String::from_str(heap, "any number of"),
         // A checked table has no other kind.
-        _ => String::from_str(heap, "an unknown node"),
+        Err(_) => String::from_str(heap, "an unknown node"),
     }
 }
 

@@ -1,6 +1,7 @@
 // The reader: pattern, branch, piece and atom, each a function, in one pass over the text.
 ghost use Rattle.std.specs.Prelude.{◌≡◌, ℕ, ◌+◌, ◌-◌, ◌<◌, ◌≤◌, length, take, IfOk, None, Ok, MatchBool, Result as Answer, MatchResult, slice_set};
 ghost use Rattle.table.specs.Kinds.{byte_admitted};
+ghost use Rattle.table.specs.NodeKinds.{number_of};
 ghost use Rattle.table.specs.Rules.{verdict};
 ghost use Rattle.table.specs.Tree.{inner, leaf_node};
 ghost use Rattle.text.specs.Classes.{class_of};
@@ -10,7 +11,7 @@ ghost use Rattle.text.specs.Grammar.{Pattern};
 ghost use Rattle.text.specs.Steps.{AtomRead, PieceRead, BranchRead, PatternRead, AtomStops, BranchStops, PatternStops, Ready, There, WholeRead, fault_of, outcome, stopped};
 
 use crate::fault::TextFault;
-use table::{BLANK, EITHER, EMPTY, LEAF, MOST_NODES, Node, REPEAT, THEN};
+use table::{BLANK, MOST_NODES, Node, NodeKind};
 
 // The most bytes of a pattern text.
 pub const MOST_BYTES: usize = 4096;
@@ -137,7 +138,7 @@ fn pattern(text: &[u8], depth: usize, nodes: &mut [Node], from: Reached) -> Resu
             count: to.count,
         };
         let end = branch(text, depth, nodes, next)?;
-        to = joined(EITHER, nodes, from, end);
+        to = joined(NodeKind::Either, nodes, from, end);
     }
     Ok(to)
 }
@@ -150,7 +151,7 @@ fn branch(text: &[u8], depth: usize, nodes: &mut [Node], from: Reached) -> Resul
     let mut to = piece(text, depth, nodes, from)?;
     while to.at < text.len() && !stands(text, to.at, b'|') && !stands(text, to.at, b')') {
         let end = piece(text, depth, nodes, to)?;
-        to = joined(THEN, nodes, from, end);
+        to = joined(NodeKind::Then, nodes, from, end);
     }
     Ok(to)
 }
@@ -166,7 +167,7 @@ fn piece(text: &[u8], depth: usize, nodes: &mut [Node], from: Reached) -> Result
             at: to.at + 1,
             count: to.count,
         };
-        to = joined(REPEAT, nodes, from, end);
+        to = joined(NodeKind::Repeat, nodes, from, end);
     }
     Ok(to)
 }
@@ -200,7 +201,7 @@ fn group(text: &[u8], depth: usize, nodes: &mut [Node], from: Reached) -> Result
     }
     let inside = from.at + 1;
     if stands(text, inside, b')') {
-        return Ok(added(inner(EMPTY, 1), nodes, from, inside + 1));
+        return Ok(added(inner(NodeKind::Empty, 1), nodes, from, inside + 1));
     }
     let next = Reached {
         at: inside,
@@ -285,11 +286,11 @@ fn added(node: Node, nodes: &mut [Node], from: Reached, at: usize) -> Reached
 }
 
 // The node that stands after its operands, whose nodes begin at `from`.
-fn joined(kind: u8, nodes: &mut [Node], from: Reached, end: Reached) -> Reached
+fn joined(kind: NodeKind, nodes: &mut [Node], from: Reached, end: Reached) -> Reached
     requires order { from.count ≤ end.count }
     requires few { end.count ≤ 8192 }
     ensures value { (result.at ≡ end.at) × (result.count ≡ end.count + 1) }
-    ensures after { nodes.new ≡ slice_set nodes.old end.count (inner kind (end.count - from.count + 1)) }
+    ensures after { nodes.new ≡ slice_set nodes.old end.count (inner (number_of kind) (end.count - from.count + 1)) }
 {
     let size = end.count - from.count + 1;
     put(nodes, end.count, inner(kind, size as u16));
@@ -309,11 +310,11 @@ fn put(nodes: &mut [Node], at: usize, node: Node)
 }
 
 // A node that is no leaf.
-fn inner(kind: u8, size: u16) -> Node
-    ensures { result ≡ inner kind size }
+fn inner(kind: NodeKind, size: u16) -> Node
+    ensures { result ≡ inner (number_of kind) size }
 {
     Node {
-        kind,
+        kind: kind as u8,
         tag: 0,
         size,
         low: 0,
@@ -327,11 +328,11 @@ fn leaf(low: u8, high: u8) -> Node
     ensures { result ≡ leaf_node (record { tag = 0; low = low; high = high }) 0 }
 {
     Node {
-        kind: LEAF,
+        kind: NodeKind::Leaf as u8,
         tag: 0,
         size: 1,
-        low: low as u32,
-        high: high as u32,
+        low: u32::from(low),
+        high: u32::from(high),
         price: 0,
     }
 }
