@@ -1,5 +1,5 @@
 -- The rows of line after line. Assumes nothing.
-use Rattle.std.proofs.Common.{◌≡◌, ℕ, ◌+◌, ◌≤◌, Bool, not, ◌&&◌, ◌||◌, eqb, List, ◌∷◌, ◌++◌, length, sym, ap, ◌∙◌, append_assoc, arith, length-take}
+use Rattle.std.proofs.Common.{◌≡◌, ℕ, ◌+◌, ◌≤◌, Bool, not, ◌&&◌, ◌||◌, eqb, List, ◌∷◌, ◌++◌, length, sym, ap, ◌∙◌, append_assoc, arith}
 use Rattle.lines.specs.Lines.{lines}
 use Rattle.table.specs.declared.table.Table.{Table}
 use Rattle.table.specs.Content.{content, tree}
@@ -43,4 +43,4 @@ opened_settled n s o k = ap (λ st. same st Owed) (o.unfilled k)
 pub room_enough : (t : Table) → needed t ≤ 1536
 room_enough t =
     let count : size (tree t) ≡ length (content t).nodes = sym (length_postfix (tree t)) ∙ ap length t.whole in
-    omega (arith, count, length-take t.len t.nodes, t.few)
+    omega (arith, count, t.few)
