@@ -2,12 +2,12 @@
 use crate::outcome::Outcome;
 use std::alloc::Global;
 use std::io;
-use table::{BLANK, EITHER, LEAF, Node, REPEAT, Symbol, THEN, Table};
+use table::{BLANK, Node, NodeKind, Symbol, Table};
 
 // The nodes that the cases are made of: a leaf for one byte or one touch, and a node of each kind with operands, of the
 // size that it has after single nodes.
 const LONE: Node = Node {
-    kind: LEAF,
+    kind: NodeKind::Leaf as u8,
     tag: 0,
     size: 1,
     low: 97,
@@ -16,7 +16,7 @@ const LONE: Node = Node {
 };
 
 pub const EITHER_OF_2: Node = Node {
-    kind: EITHER,
+    kind: NodeKind::Either as u8,
     tag: 0,
     size: 3,
     low: 0,
@@ -25,7 +25,7 @@ pub const EITHER_OF_2: Node = Node {
 };
 
 const THEN_OF_2: Node = Node {
-    kind: THEN,
+    kind: NodeKind::Then as u8,
     tag: 0,
     size: 3,
     low: 0,
@@ -34,7 +34,7 @@ const THEN_OF_2: Node = Node {
 };
 
 pub const REPEAT_OF_1: Node = Node {
-    kind: REPEAT,
+    kind: NodeKind::Repeat as u8,
     tag: 0,
     size: 2,
     low: 0,
@@ -45,11 +45,11 @@ pub const REPEAT_OF_1: Node = Node {
 // How many empty nodes are judged at a time, to see the limits of a table.
 const MANY: [usize; 3] = [511, 512, 513];
 
-// A list of nodes, and what it shows.
+// A list of nodes, and what it shows or says.
 #[derive(Clone, Copy)]
-struct Case {
-    name: &'static str,
-    nodes: &'static [Node],
+pub struct Case {
+    pub name: &'static str,
+    pub nodes: &'static [Node],
 }
 
 const OF_BYTES: [Case; 52] = [
@@ -490,10 +490,8 @@ fn judged<S: Symbol>(nodes: &[Node]) -> Outcome {
 }
 
 fn outcome<S: Symbol>(table: &mut Table, nodes: &[Node]) -> Outcome {
-    match table.judge::<S>(nodes) {
-        Ok(()) => Outcome::Nodes(table.nodes().len()),
-        Err(fault) => Outcome::Refused(fault.refusal()),
-    }
+    let judged = table.judge::<S>(nodes);
+    Outcome::of(judged.map(|()| table.nodes().len()))
 }
 
 // A table that holds a list keeps it, and its kind, through refusals; an accepted list takes its place.
@@ -516,6 +514,6 @@ fn refused_twice(rt: &HostRuntime) -> io::Result<()> {
 
 fn show(rt: &HostRuntime, when: &str, table: &Table) -> io::Result<()> {
     let kind = table.kind();
-    let held = Outcome::Nodes(table.nodes().len());
+    let held = Outcome(Ok(table.nodes().len()));
     println!(rt; "{when} -> kind {kind}, {held}")
 }

@@ -1,12 +1,12 @@
 // What the reader does with the nodes that are lent to it.
-use crate::outcome::{Outcome, same_node};
+use crate::outcome::Outcome;
 use std::alloc::{AllocError, Global};
 use std::io;
-use table::{BLANK, LEAF, Node};
+use table::{BLANK, Node, NodeKind};
 
 // A node that the reader never makes, to see which nodes it wrote.
 const MARK: Node = Node {
-    kind: LEAF,
+    kind: NodeKind::Leaf as u8,
     tag: 7,
     size: 9,
     low: 1,
@@ -44,27 +44,21 @@ pub fn run(rt: &HostRuntime, heap: Global) -> io::Result<()> {
 // text's own untouched where it is accepted.
 fn answer(heap: Global, text: &[u8], lent: usize) -> Result<String, AllocError> {
     let mut nodes = vec![in heap; MARK; lent]?;
-    match text::read(text, nodes.as_mut_slice()) {
+    let outcome = Outcome::of(text::read(text, nodes.as_mut_slice()));
+    match outcome.0 {
         Ok(count) => {
-            let outcome = Outcome::Nodes(count);
-            let kept = yes_or_no(all_are(nodes.as_slice(), count, MARK));
+            let kept = yes_or_no(all_are(&nodes[count..], MARK));
             format!(in heap; "{outcome}, the others kept: {kept}")
         }
-        Err(fault) => {
-            let outcome = Outcome::Refused(fault.refusal());
-            let emptied = yes_or_no(all_are(nodes.as_slice(), 0, BLANK));
+        Err(_) => {
+            let emptied = yes_or_no(all_are(nodes.as_slice(), BLANK));
             format!(in heap; "{outcome}, all emptied: {emptied}")
         }
     }
 }
 
-fn all_are(nodes: &[Node], from: usize, wanted: Node) -> bool {
-    for node in nodes.iter().skip(from) {
-        if !same_node(*node, wanted) {
-            return false;
-        }
-    }
-    true
+fn all_are(nodes: &[Node], wanted: Node) -> bool {
+    nodes.iter().all(|node| *node == wanted)
 }
 
 fn yes_or_no(answer: bool) -> &'static str {

@@ -1,24 +1,17 @@
 // Cases of sessions: successions of read, weigh and restart, at both kinds of symbol and at all four scales.
-use crate::judged::{EITHER_OF_2, REPEAT_OF_1};
+use crate::judged::{Case, EITHER_OF_2, REPEAT_OF_1};
 use crate::replies::{Signed, Weighed, refused, told};
 use scale::{Count, Pair, Price, Scale};
 use session::{Ask, Reply, Turn, WEIGHTS_PER_NODE, run_turns};
 use std::alloc::{AllocError, Global};
 use std::io;
-use table::{BLANK, LEAF, MOST_NODES, Node, Symbol, Table, Touch};
+use table::{Node, NodeKind, Symbol, Table, Touch};
 
 // Patterns of bytes, of which the text says all.
 const TEXTS: [&str; 5] = ["(a|a*)(b|b*)", "(a*)*", "()*", "(a|())*", "a"];
 
-// A list of nodes, and what it says.
-#[derive(Clone, Copy)]
-pub struct Case {
-    pub name: &'static str,
-    pub nodes: &'static [Node],
-}
-
 const A: Node = Node {
-    kind: LEAF,
+    kind: NodeKind::Leaf as u8,
     tag: 0,
     size: 1,
     low: 97,
@@ -28,7 +21,7 @@ const A: Node = Node {
 
 // A pad touch from 25 to 60 seconds after the touch before.
 const PAD: Node = Node {
-    kind: LEAF,
+    kind: NodeKind::Leaf as u8,
     tag: 0,
     size: 1,
     low: 2_500,
@@ -38,7 +31,7 @@ const PAD: Node = Node {
 
 // A touch of any source.
 const ANY: Node = Node {
-    kind: LEAF,
+    kind: NodeKind::Leaf as u8,
     tag: 3,
     size: 1,
     low: 0,
@@ -173,13 +166,9 @@ pub fn run(rt: &HostRuntime, heap: Global) -> io::Result<()> {
     at_all_scales::<Touch>(rt, heap, PADS_OR_ANY.name, &pads_or_any, &TOUCHES)
 }
 
-// The table of a text. A text that is refused would leave the table new.
+// The table of a text. A text that is refused would have a new table.
 pub fn byte_table(text: &[u8]) -> Table {
-    let mut nodes = [BLANK; MOST_NODES];
-    match text::read(text, &mut nodes) {
-        Ok(count) => table_of::<u8>(&nodes[0..count]),
-        Err(_) => Table::new(),
-    }
+    text::table_of(text).unwrap_or_else(|_| Table::new())
 }
 
 // The table of a list. A list that is refused would leave the table new.

@@ -2,7 +2,7 @@
 use crate::outcome::Outcome;
 use std::alloc::{AllocError, Global};
 use std::io;
-use table::BLANK;
+use table::{BLANK, MOST_NODES};
 
 // Texts that are printed as they are.
 const SHORT: [&str; 61] = [
@@ -13,196 +13,38 @@ const SHORT: [&str; 61] = [
     "[a-b]*", "\\", "\\\\", "a\\", "\\(", "\\*", "]", "a]", "\\]*",
 ];
 
-// A part of a text, so many times.
-#[derive(Clone, Copy)]
-struct Times(usize, &'static str);
-
-const NONE: Times = Times(0, "");
-
-// A text that is named in words, since it is too long to print.
-#[derive(Clone, Copy)]
-struct Long {
-    name: &'static str,
-    front: Times,
-    middle: Times,
-    back: Times,
-}
-
-const LONG: [Long; 29] = [
-    Long {
-        name: "256 a's",
-        front: Times(256, "a"),
-        middle: NONE,
-        back: NONE,
-    },
-    Long {
-        name: "256 a's and *",
-        front: Times(256, "a"),
-        middle: Times(1, "*"),
-        back: NONE,
-    },
-    Long {
-        name: "256 a's and **",
-        front: Times(256, "a"),
-        middle: Times(1, "**"),
-        back: NONE,
-    },
-    Long {
-        name: "257 a's",
-        front: Times(257, "a"),
-        middle: NONE,
-        back: NONE,
-    },
-    Long {
-        name: "128 times a| and 1 a",
-        front: Times(128, "a|"),
-        middle: Times(1, "a"),
-        back: NONE,
-    },
-    Long {
-        name: "255 times a| and 1 a",
-        front: Times(255, "a|"),
-        middle: Times(1, "a"),
-        back: NONE,
-    },
-    Long {
-        name: "256 times a| and 1 a",
-        front: Times(256, "a|"),
-        middle: Times(1, "a"),
-        back: NONE,
-    },
-    Long {
-        name: "a and 511 *",
-        front: Times(1, "a"),
-        middle: Times(511, "*"),
-        back: NONE,
-    },
-    Long {
-        name: "a and 512 *",
-        front: Times(1, "a"),
-        middle: Times(512, "*"),
-        back: NONE,
-    },
-    Long {
-        name: "4096 a's",
-        front: Times(4096, "a"),
-        middle: NONE,
-        back: NONE,
-    },
-    Long {
-        name: "4097 a's",
-        front: Times(4097, "a"),
-        middle: NONE,
-        back: NONE,
-    },
-    Long {
-        name: "4095 a's and |",
-        front: Times(4095, "a"),
-        middle: Times(1, "|"),
-        back: NONE,
-    },
-    Long {
-        name: "4096 a's and |",
-        front: Times(4096, "a"),
-        middle: Times(1, "|"),
-        back: NONE,
-    },
-    Long {
-        name: "2048 times \\a",
-        front: Times(2048, "\\a"),
-        middle: NONE,
-        back: NONE,
-    },
-    Long {
-        name: "2048 times \\a and 1 a",
-        front: Times(2048, "\\a"),
-        middle: Times(1, "a"),
-        back: NONE,
-    },
-    Long {
-        name: "4097 times )",
-        front: Times(4097, ")"),
-        middle: NONE,
-        back: NONE,
-    },
-    Long {
-        name: "a in brackets 32 deep",
-        front: Times(32, "("),
-        middle: Times(1, "a"),
-        back: Times(32, ")"),
-    },
-    Long {
-        name: "a in brackets 33 deep",
-        front: Times(33, "("),
-        middle: Times(1, "a"),
-        back: Times(33, ")"),
-    },
-    Long {
-        name: "() 32 deep",
-        front: Times(31, "("),
-        middle: Times(1, "()"),
-        back: Times(31, ")"),
-    },
-    Long {
-        name: "() 33 deep",
-        front: Times(32, "("),
-        middle: Times(1, "()"),
-        back: Times(32, ")"),
-    },
-    Long {
-        name: "32 opening brackets",
-        front: Times(32, "("),
-        middle: NONE,
-        back: NONE,
-    },
-    Long {
-        name: "33 opening brackets",
-        front: Times(33, "("),
-        middle: NONE,
-        back: NONE,
-    },
-    Long {
-        name: "32 opening brackets and *",
-        front: Times(32, "("),
-        middle: Times(1, "*"),
-        back: NONE,
-    },
-    Long {
-        name: "33 opening brackets and *",
-        front: Times(33, "("),
-        middle: Times(1, "*"),
-        back: NONE,
-    },
-    Long {
-        name: "a) and 33 opening brackets",
-        front: Times(1, "a)"),
-        middle: Times(33, "("),
-        back: NONE,
-    },
-    Long {
-        name: "33 times \\(",
-        front: Times(33, "\\("),
-        middle: NONE,
-        back: NONE,
-    },
-    Long {
-        name: "33 times [(-(]",
-        front: Times(33, "[(-(]"),
-        middle: NONE,
-        back: NONE,
-    },
-    Long {
-        name: "33 times ()",
-        front: Times(33, "()"),
-        middle: NONE,
-        back: NONE,
-    },
-    Long {
-        name: "33 times (a)",
-        front: Times(33, "(a)"),
-        middle: NONE,
-        back: NONE,
-    },
+// Texts that are named in words, since they are too long to print: the parts of each, and how many times each part
+// stands there.
+const LONG: [(&str, &[(usize, &str)]); 29] = [
+    ("256 a's", &[(256, "a")]),
+    ("256 a's and *", &[(256, "a"), (1, "*")]),
+    ("256 a's and **", &[(256, "a"), (1, "**")]),
+    ("257 a's", &[(257, "a")]),
+    ("128 times a| and 1 a", &[(128, "a|"), (1, "a")]),
+    ("255 times a| and 1 a", &[(255, "a|"), (1, "a")]),
+    ("256 times a| and 1 a", &[(256, "a|"), (1, "a")]),
+    ("a and 511 *", &[(1, "a"), (511, "*")]),
+    ("a and 512 *", &[(1, "a"), (512, "*")]),
+    ("4096 a's", &[(4096, "a")]),
+    ("4097 a's", &[(4097, "a")]),
+    ("4095 a's and |", &[(4095, "a"), (1, "|")]),
+    ("4096 a's and |", &[(4096, "a"), (1, "|")]),
+    ("2048 times \\a", &[(2048, "\\a")]),
+    ("2048 times \\a and 1 a", &[(2048, "\\a"), (1, "a")]),
+    ("4097 times )", &[(4097, ")")]),
+    ("a in brackets 32 deep", &[(32, "("), (1, "a"), (32, ")")]),
+    ("a in brackets 33 deep", &[(33, "("), (1, "a"), (33, ")")]),
+    ("() 32 deep", &[(31, "("), (1, "()"), (31, ")")]),
+    ("() 33 deep", &[(32, "("), (1, "()"), (32, ")")]),
+    ("32 opening brackets", &[(32, "(")]),
+    ("33 opening brackets", &[(33, "(")]),
+    ("32 opening brackets and *", &[(32, "("), (1, "*")]),
+    ("33 opening brackets and *", &[(33, "("), (1, "*")]),
+    ("a) and 33 opening brackets", &[(1, "a)"), (33, "(")]),
+    ("33 times \\(", &[(33, "\\(")]),
+    ("33 times [(-(]", &[(33, "[(-(]")]),
+    ("33 times ()", &[(33, "()")]),
+    ("33 times (a)", &[(33, "(a)")]),
 ];
 
 pub fn run(rt: &HostRuntime, heap: Global) -> io::Result<()> {
@@ -210,9 +52,8 @@ pub fn run(rt: &HostRuntime, heap: Global) -> io::Result<()> {
         let outcome = outcome(text.as_bytes());
         println!(rt; "{text} -> {outcome}")?;
     }
-    for case in LONG {
-        let name = case.name;
-        let text = built(heap, case)?;
+    for (name, parts) in LONG {
+        let text = built(heap, parts)?;
         let outcome = outcome(text.as_bytes());
         println!(rt; "{name} -> {outcome}")?;
     }
@@ -222,27 +63,19 @@ pub fn run(rt: &HostRuntime, heap: Global) -> io::Result<()> {
 
 // What the reader answers where as many nodes are lent as a table holds.
 fn outcome(text: &[u8]) -> Outcome {
-    let mut nodes = [BLANK; 512];
-    match text::read(text, &mut nodes) {
-        Ok(count) => Outcome::Nodes(count),
-        Err(fault) => Outcome::Refused(fault.refusal()),
-    }
+    let mut nodes = [BLANK; MOST_NODES];
+    Outcome::of(text::read(text, &mut nodes))
 }
 
-// The text of a case.
-fn built(heap: Global, case: Long) -> Result<String, AllocError> {
+// The text of which those are the parts.
+fn built(heap: Global, parts: &[(usize, &str)]) -> Result<String, AllocError> {
     let mut text = String::new(heap);
-    push_times(&mut text, case.front)?;
-    push_times(&mut text, case.middle)?;
-    push_times(&mut text, case.back)?;
-    Ok(text)
-}
-
-fn push_times(text: &mut String, part: Times) -> Result<(), AllocError> {
-    for _ in 0..part.0 {
-        text.push_str(part.1)?;
+    for (times, part) in parts {
+        for _ in 0..*times {
+            text.push_str(part)?;
+        }
     }
-    Ok(())
+    Ok(text)
 }
 
 // How many of the 256 texts of one byte are accepted, and which are refused.
@@ -250,9 +83,9 @@ fn one_byte_texts(heap: Global) -> Result<String, AllocError> {
     let mut accepted = 0u32;
     let mut refused = String::new(heap);
     for byte in 0..=u8::MAX {
-        match outcome(&[byte]) {
-            Outcome::Nodes(_) => accepted = accepted.saturating_add(1),
-            Outcome::Refused(_) => refused.push_str(format!(in heap; " {byte}")?.as_str())?,
+        match outcome(&[byte]).0 {
+            Ok(_) => accepted = accepted.saturating_add(1),
+            Err(_) => refused.push_str(format!(in heap; " {byte}")?.as_str())?,
         }
     }
     format!(in heap; "{accepted} accepted, refused:{refused}")
