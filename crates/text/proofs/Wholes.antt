@@ -1,5 +1,5 @@
 -- What reading the whole text answers, and what it leaves. Assumes nothing.
-use Rattle.std.proofs.Common.{◌≡◌, ℕ, ◌<◌, ◌≤◌, List, [], ◌++◌, length, take, drop, None, Ok, Err, sym, refl, ap, ◌∙◌, subst, arith, le-leb}
+use Rattle.std.proofs.Common.{◌≡◌, ℕ, ◌<◌, ◌≤◌, List, [], ◌++◌, length, take, drop, None, Ok, Err, IfOk, Result, sym, refl, ap, ◌∙◌, subst, arith, le-leb}
 use Rattle.std.proofs.lemmas.List.{take_at}
 use Rattle.table.specs.declared.node.Node.{Node}
 use Rattle.table.specs.Kinds.{byte_admitted}
@@ -78,9 +78,10 @@ mutual
   leaves (or p b) h = (leaves p h.0, branch_leaves b h.1)
 
 -- the judge never refuses what a reading accepted
-pub judged : (s : List ℕ) (before after : List Node) (n : ℕ) → Answers s (length before) (Ok n) → reads.Leaves s before (Ok n) after → verdict byte_admitted (take n after) ≡ None
-judged s before after n a l =
+pub judged : (s : List ℕ) (before after : List Node) (r : Result ℕ TextFault) → Answers s (length before) r → IfOk r (λ n. reads.Leaves s before (Ok n) after) → IfOk r (λ n. verdict byte_admitted (take n after) ≡ None)
+judged s before after (Ok n) a l =
     let q = a.0 in
     let long : length (postfix (tree q)) ≡ n = length_postfix (tree q) ∙ sym a.2 in
     let front : take n after ≡ postfix (tree q) = ap (take n) (l q a.1.1) ∙ take_at (postfix (tree q)) (drop n before) n long in
     writes_none byte_admitted (take n after) (tree q, sym front, omega (arith, ap length front, a.3), leaves q a.1.1.0)
+judged s before after (Err f) a l = tt

@@ -62,12 +62,14 @@ enum Stop {
     Deep(usize),
 }
 
-fn fault_of(stop: Stop) -> TextFault
-    ensures { result ≡ fault_of stop }
-{
-    match stop {
-        Stop::Off(at) => TextFault::OffGrammar(at),
-        Stop::Deep(at) => TextFault::TooDeep(at),
+impl From<Stop> for TextFault {
+    ghost from_gives = { λ e f. f ≡ fault_of e };
+
+    fn from(stop: Stop) -> TextFault {
+        match stop {
+            Stop::Off(at) => TextFault::OffGrammar(at),
+            Stop::Deep(at) => TextFault::TooDeep(at),
+        }
     }
 }
 
@@ -83,13 +85,11 @@ pub fn read(text: &[u8], nodes: &mut [Node]) -> Result<usize, TextFault>
     ensures judged { IfOk result (λ n. verdict byte_admitted (take n nodes.new) ≡ None) }
     ensures bound { IfOk result (λ n. (n ≤ length nodes.old) × (n ≤ 512)) }
 {
-    match read_nodes(text, nodes) {
-        Ok(count) => Ok(count),
-        Err(fault) => {
-            nodes.fill(BLANK);
-            Err(fault)
-        }
+    let answer = read_nodes(text, nodes);
+    if answer.is_err() {
+        nodes.fill(BLANK);
     }
+    answer
 }
 
 // As `read`, but a refusal leaves anything in the lent nodes.
@@ -100,10 +100,7 @@ fn read_nodes(text: &[u8], nodes: &mut [Node]) -> Result<usize, TextFault>
     if text.len() > MOST_BYTES {
         return Err(TextFault::TooLong);
     }
-    let count = match whole(text, nodes) {
-        Ok(count) => count,
-        Err(stop) => return Err(fault_of(stop)),
-    };
+    let count = whole(text, nodes)?;
     if count > MOST_NODES {
         return Err(TextFault::NodeCount(count));
     }
