@@ -5,6 +5,7 @@ pub mod Run
 pub mod Complete
 pub mod Verdicts
 pub mod Outcomes
+pub mod Taking
 pub mod Laying
 pub mod Exits
 pub mod Atoms

@@ -12,8 +12,9 @@ use Rattle.text.specs.Grammar.{Atom, unit, group, any, range, quoted, plain, Pie
 use Rattle.text.specs.Reads as reads
 use Rattle.text.specs.Reads.{Means, Fits, Answers}
 use Rattle.text.specs.Scan.{state, start, done, joined, Verdict, good, off, deep}
-use Rattle.text.specs.Steps.{outcome, stopped, fault_of, laid, WholeRead, PatternRead}
-use Rattle.text.specs.declared.reader.Reached.{Reached}
+use Rattle.text.specs.Steps.{outcome, stopped, fault_of, laid, WholeRead}
+use Rattle.text.specs.Progress.{PatternRead}
+use Rattle.text.specs.declared.reader.Reader.{Reader}
 use Rattle.text.specs.declared.reader.Stop.{Stop}
 use Rattle.text.specs.declared.reader.Stop.TheVariants.{Off, Deep}
 use Rattle.text.proofs.Laying.{laid_all}
@@ -33,16 +34,19 @@ stop_answers s room e f le h same = subst (λ x. Answers s room (Err x)) (sym sa
     at (Off p) h = let t = told s (off p) h in (le, t.0, t.1, t.2)
     at (Deep p) h = let t = told s (deep p) h in (le, t.0, t.1, t.2)
 
-module _ (s : List ℕ) (before after : List Node) (to : Reached) (r : PatternRead s 0 before (record { at = 0; count = 0 }) after to) where
-  pub cut_short : to.at < length s → outcome start s 0 ≡ off to.at
-  cut_short lt = r.goes [] refl ∙ stops s (state [] r.alts (done r.branch)) to.at 41 (r.ends lt) refl
+module _ (s : List ℕ) (was now : Reader) (first : was.at ≡ 0) (none : was.count ≡ 0) (r : PatternRead s 0 was now) where
+  goes_all : outcome start s 0 ≡ outcome (state [] r.alts (done r.branch)) s now.at
+  goes_all = ap (outcome start s) (sym first) ∙ r.goes [] refl
 
-  pub whole_read : length s ≤ to.at → WholeRead s before after to.count
-  whole_read le = (
+  pub cut_short : now.at < length s → outcome start s 0 ≡ off now.at
+  cut_short lt = goes_all ∙ stops s (state [] r.alts (done r.branch)) now.at 41 (r.ends lt) refl
+
+  pub whole_read : length s ≤ now.at → (after : List Node) → after ≡ now.nodes.now → WholeRead s was.nodes.now after now.count
+  whole_read le after left = (
     joined r.alts r.branch,
-    r.goes [] refl ∙ at_end s (state [] r.alts (done r.branch)) to.at le,
+    goes_all ∙ at_end s (state [] r.alts (done r.branch)) now.at le,
     omega (arith, r.made.count),
-    r.made.nodes,
+    left ∙ r.made.nodes ∙ ap (λ n. laid was.nodes.now n (postfix (tree (joined r.alts r.branch)))) none,
   )
 
 module _ (s : List ℕ) (before after : List Node) (n : ℕ) (short : length s ≤ 4096) (w : WholeRead s before after n) where
