@@ -1,8 +1,9 @@
 -- The nodes of a tree, from their end. Assumes nothing.
-use Rattle.std.proofs.Common.{◌≡◌, ℕ, ◌+◌, ◌-◌, ◌≤◌, List, [], ◌∷◌, ◌++◌, length, get_or, take, drop, sym, refl, ap, ◌∙◌, append_assoc, arith, length-append, take-append-drop}
+use Rattle.std.proofs.Common.{◌≡◌, ℕ, ◌+◌, ◌-◌, ◌≤◌, List, [], ◌∷◌, ◌++◌, length, get_or, take, drop, Some, None, Option, Bor, MatchOption, sym, refl, ap, ◌∙◌, append_assoc, arith, length-append, take-append-drop}
 use Rattle.picture.specs.Outline.{Outlined, Parted, line_of, outlined}
 use Rattle.picture.specs.Words.{node_words}
 use Rattle.std.proofs.lemmas.List.{get_or_at, take_at, drop_at, same_from_push, length_push, nil_from_length}
+use Rattle.std.specs.Slice.{IsGetResult}
 use Rattle.table.specs.Tree.{Tree, empty, leaf, either, then, repeat, postfix, size, inner, leaf_node}
 use Rattle.table.specs.declared.node.Node.{Node}
 
@@ -47,15 +48,20 @@ module _ (nodes left right : List Node) (n : ℕ) (front : left ≡ take (length
       (front ∙ ap (take (length nodes - n)) e ∙ take_at before (postfix t) (length nodes - n) at, back ∙ ap (drop (length nodes - n)) e ∙ drop_at before (postfix t) (length nodes - n) at)
 
   -- n is the size of the last node
-  pub parted_by : (x : Node) → x ≡ get_or nodes (length nodes - 1) x → x.size ≡ n → Parted nodes left right
+  parted_by : (x : Node) → x ≡ get_or nodes (length nodes - 1) x → x.size ≡ n → Parted nodes left right
   parted_by x last sized = record { whole = whole; long = long; cuts = λ t before e. cuts t before x e last sized }
 
-  pub parted_none : length nodes ≤ 0 → Parted nodes left right
+  parted_none : length nodes ≤ 0 → Parted nodes left right
   parted_none none = record {
     whole = whole;
     long = long;
     cuts = λ t before e. absurd (omega (arith, ap length e, length-append before (postfix t), ap length (rooted t).split, length_push (rooted t).before (rooted t).root));
   }
+
+-- the last node, if there is one, says how many the right part has
+pub parted : (nodes left right : List Node) (n : ℕ) (last : Option (Bor Node)) → IsGetResult nodes 0 (length nodes - 1) last → MatchOption last (n ≡ 0) (λ x. n ≡ x.now.size) → left ≡ take (length nodes - n) nodes → right ≡ drop (length nodes - n) nodes → Parted nodes left right
+parted nodes left right n (Some x) item sized front back = parted_by nodes left right n front back x.now item.1 (sym sized)
+parted nodes left right n None item sized front back = parted_none nodes left right n front back item.3
 
 -- one node's line, and then what its operands add
 module _ (root : Node) (d : ℕ) (w0 : List ℕ) {nodes ops left right : List Node} {w1 w2 w3 : List ℕ} (split : nodes ≡ ops ++ (root ∷ [])) (parts : Parted ops left right) (first : w1 ≡ w0 ++ line_of d (node_words root)) (second : Outlined left (d + 1) w1 w2) (third : Outlined right (d + 1) w2 w3) where
