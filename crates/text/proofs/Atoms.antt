@@ -80,9 +80,9 @@ module _ (s : List ℕ) (i : ℕ) (o : List Level) (a : Option Pattern) (p : Opt
   begins_none b k h e n = stops s (state o a (must p)) i b h (feed_none (state o a (must p)) b (ap (begin o a p b) e ∙ n))
 
 -- an atom of one node, after j bytes
-pub one_node : (x : Atom) (n : Node) → postfix (atom_tree x) ≡ n ∷ [] → size (atom_tree x) ≡ 1 → (s : List ℕ) (d j : ℕ) (was now : Reader) → ((o : List Level) (a : Option Pattern) (p : Option Branch) → length o ≡ d → outcome (state o a (must p)) s was.at ≡ outcome (state o a (done (appended p (once x)))) s (was.at + j)) → 0 < j → Added j n was now → AtomRead s d was now
-one_node x n e k s d j was now goes pos m = record {
+pub one_node : (x : Atom) (n : Node) → postfix (atom_tree x) ≡ n ∷ [] → size (atom_tree x) ≡ 1 → (j : ℕ) (was now : Reader) → ((o : List Level) (a : Option Pattern) (p : Option Branch) → length o ≡ was.depth → outcome (state o a (must p)) was.text.now was.at ≡ outcome (state o a (done (appended p (once x)))) was.text.now (was.at + j)) → 0 < j → Added j n was now → AtomRead was now
+one_node x n e k j was now goes pos m = record {
   atom = x;
-  goes = λ o a p h. goes o a p h ∙ ap (outcome (state o a (done (appended p (once x)))) s) (sym m.at);
+  goes = λ o a p h. goes o a p h ∙ ap (outcome (state o a (done (appended p (once x)))) was.text.now) (sym m.at);
   made = single (atom_tree x) n j was now e k pos m;
 }

@@ -37,6 +37,7 @@ single t n j was now p one pos a = record {
   list = a.list;
   nodes = a.nodes ∙ ap (laid was.nodes.now was.count) (sym p);
   count = a.count ∙ ap (λ x. was.count + x) (sym one);
+  depth = a.depth;
   forward = omega (arith, a.at);
   few = omega (arith, a.at, a.count);
 }
@@ -52,6 +53,7 @@ paired t u v k was half mid late now p z a j c b e = record {
       ∙ laid_then was.nodes.now was.count (postfix t) _ mid.nodes.now mid.count (c.nodes ∙ a.nodes) (omega (arith, length_postfix t, a.count, c.count))
       ∙ laid_then mid.nodes.now mid.count (postfix u) (inner k (size v) ∷ []) late.nodes.now late.count b.nodes (omega (arith, length_postfix u, b.count)));
   count = omega (arith, a.count, b.count, c.count, e.count);
+  depth = e.depth ∙ b.depth ∙ c.depth ∙ a.depth;
   forward = omega (arith, a.forward, b.forward, c.at, e.at);
   few = omega (arith, a.few, b.few, c.at, c.count, e.at, e.count);
 }
@@ -65,6 +67,7 @@ starred_made t v k was half mid now p z a c e = record {
       e.nodes ∙ ap (λ n. set mid.nodes.now mid.count (inner k n)) (omega (arith, a.count, c.count))
       ∙ sym (ap (laid was.nodes.now was.count) p ∙ laid_then was.nodes.now was.count (postfix t) (inner k (size v) ∷ []) mid.nodes.now mid.count (c.nodes ∙ a.nodes) (omega (arith, length_postfix t, a.count, c.count)));
   count = omega (arith, a.count, c.count, e.count);
+  depth = e.depth ∙ c.depth ∙ a.depth;
   forward = omega (arith, a.forward, c.at, e.at);
   few = omega (arith, a.few, c.at, c.count, e.at, e.count);
 }

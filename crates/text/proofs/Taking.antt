@@ -24,6 +24,7 @@ module _ (j k : ℕ) (was mid now : Reader) (t : Took j was mid) where
     nodes = u.nodes ∙ t.nodes;
     at = omega (arith, t.at, u.at);
     count = u.count ∙ t.count;
+    depth = u.depth ∙ t.depth;
   }
 
   pub added_more : (x : Node) → Added k x mid now → Added (j + k) x was now
@@ -33,4 +34,5 @@ module _ (j k : ℕ) (was mid now : Reader) (t : Took j was mid) where
     nodes = u.nodes ∙ (λ i. set (t.nodes i) (t.count i) x);
     at = omega (arith, t.at, u.at);
     count = u.count ∙ ap (λ n. n + 1) t.count;
+    depth = u.depth ∙ t.depth;
   }

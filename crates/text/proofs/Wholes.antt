@@ -34,17 +34,17 @@ stop_answers s room e f le h same = subst (λ x. Answers s room (Err x)) (sym sa
     at (Off p) h = let t = told s (off p) h in (le, t.0, t.1, t.2)
     at (Deep p) h = let t = told s (deep p) h in (le, t.0, t.1, t.2)
 
-module _ (s : List ℕ) (was now : Reader) (first : was.at ≡ 0) (none : was.count ≡ 0) (r : PatternRead s 0 was now) where
-  goes_all : outcome start s 0 ≡ outcome (state [] r.alts (done r.branch)) s now.at
-  goes_all = ap (outcome start s) (sym first) ∙ r.goes [] refl
+module _ (was now : Reader) (first : was.at ≡ 0) (none : was.count ≡ 0) (open_none : was.depth ≡ 0) (r : PatternRead was now) where
+  goes_all : outcome start was.text.now 0 ≡ outcome (state [] r.alts (done r.branch)) was.text.now now.at
+  goes_all = ap (outcome start was.text.now) (sym first) ∙ r.goes [] (sym open_none)
 
-  pub cut_short : now.at < length s → outcome start s 0 ≡ off now.at
-  cut_short lt = goes_all ∙ stops s (state [] r.alts (done r.branch)) now.at 41 (r.ends lt) refl
+  pub cut_short : now.at < length was.text.now → outcome start was.text.now 0 ≡ off now.at
+  cut_short lt = goes_all ∙ stops was.text.now (state [] r.alts (done r.branch)) now.at 41 (r.ends lt) refl
 
-  pub whole_read : length s ≤ now.at → (after : List Node) → after ≡ now.nodes.now → WholeRead s was.nodes.now after now.count
+  pub whole_read : length was.text.now ≤ now.at → (after : List Node) → after ≡ now.nodes.now → WholeRead was.text.now was.nodes.now after now.count
   whole_read le after left = (
     joined r.alts r.branch,
-    goes_all ∙ at_end s (state [] r.alts (done r.branch)) now.at le,
+    goes_all ∙ at_end was.text.now (state [] r.alts (done r.branch)) now.at le,
     omega (arith, r.made.count),
     left ∙ r.made.nodes ∙ ap (λ n. laid was.nodes.now n (postfix (tree (joined r.alts r.branch)))) none,
   )

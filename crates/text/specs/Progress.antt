@@ -15,6 +15,7 @@ pub record Took (n : ℕ) (was now : Reader) : Type 0 where
   pub nodes : now.nodes.now ≡ was.nodes.now
   pub at : now.at ≡ was.at + n
   pub count : now.count ≡ was.count
+  pub depth : now.depth ≡ was.depth
 
 -- bytes have been taken and a node added
 pub record Added (n : ℕ) (x : Node) (was now : Reader) : Type 0 where
@@ -23,6 +24,16 @@ pub record Added (n : ℕ) (x : Node) (was now : Reader) : Type 0 where
   pub nodes : now.nodes.now ≡ slice_set was.nodes.now was.count x
   pub at : now.at ≡ was.at + n
   pub count : now.count ≡ was.count + 1
+  pub depth : now.depth ≡ was.depth
+
+-- one bracket more is open, and nothing else has changed
+pub record Inside (was now : Reader) : Type 0 where
+  pub text : now.text.now ≡ was.text.now
+  pub list : now.nodes.ghost_name ≡ was.nodes.ghost_name
+  pub nodes : now.nodes.now ≡ was.nodes.now
+  pub at : now.at ≡ was.at
+  pub count : now.count ≡ was.count
+  pub depth : now.depth ≡ was.depth + 1
 
 -- the nodes of a tree have been added
 pub record Made (t : Tree) (was now : Reader) : Type 0 where
@@ -30,43 +41,44 @@ pub record Made (t : Tree) (was now : Reader) : Type 0 where
   pub list : now.nodes.ghost_name ≡ was.nodes.ghost_name
   pub nodes : now.nodes.now ≡ laid was.nodes.now was.count (postfix t)
   pub count : now.count ≡ was.count + size t
+  pub depth : now.depth ≡ was.depth
   pub forward : was.at < now.at
   pub few : now.count + 2 * was.at + 1 ≤ was.count + 2 * now.at
 
 -- an atom has been read, after any pieces at this depth
-pub record AtomRead (s : List ℕ) (d : ℕ) (was now : Reader) : Type 0 where
+pub record AtomRead (was now : Reader) : Type 0 where
   pub atom : Atom
-  pub goes : (o : List Level) (a : Option Pattern) (p : Option Branch) → length o ≡ d → outcome (state o a (must p)) s was.at ≡ outcome (state o a (done (appended p (once atom)))) s now.at
+  pub goes : (o : List Level) (a : Option Pattern) (p : Option Branch) → length o ≡ was.depth → outcome (state o a (must p)) was.text.now was.at ≡ outcome (state o a (done (appended p (once atom)))) was.text.now now.at
   pub made : Made (atom_tree atom) was now
 
 -- a piece has been read, with all its stars
-pub record PieceRead (s : List ℕ) (d : ℕ) (was now : Reader) : Type 0 where
+pub record PieceRead (was now : Reader) : Type 0 where
   pub piece : Piece
-  pub goes : (o : List Level) (a : Option Pattern) (p : Option Branch) → length o ≡ d → outcome (state o a (must p)) s was.at ≡ outcome (state o a (done (appended p piece))) s now.at
+  pub goes : (o : List Level) (a : Option Pattern) (p : Option Branch) → length o ≡ was.depth → outcome (state o a (must p)) was.text.now was.at ≡ outcome (state o a (done (appended p piece))) was.text.now now.at
   pub made : Made (piece_tree piece) was now
-  pub ends : There s now.at 42 → ⊥
+  pub ends : There was.text.now now.at 42 → ⊥
 
 -- a branch has been read, up to a bar, a closing bracket or the end
-pub record BranchRead (s : List ℕ) (d : ℕ) (was now : Reader) : Type 0 where
+pub record BranchRead (was now : Reader) : Type 0 where
   pub branch : Branch
-  pub goes : (o : List Level) (a : Option Pattern) → length o ≡ d → outcome (state o a (must None)) s was.at ≡ outcome (state o a (done branch)) s now.at
+  pub goes : (o : List Level) (a : Option Pattern) → length o ≡ was.depth → outcome (state o a (must None)) was.text.now was.at ≡ outcome (state o a (done branch)) was.text.now now.at
   pub made : Made (branch_tree branch) was now
-  pub ends : now.at < length s → There s now.at 124 ⊎ There s now.at 41
+  pub ends : now.at < length was.text.now → There was.text.now now.at 124 ⊎ There was.text.now now.at 41
 
 -- a pattern has been read, up to a closing bracket or the end
-pub record PatternRead (s : List ℕ) (d : ℕ) (was now : Reader) : Type 0 where
+pub record PatternRead (was now : Reader) : Type 0 where
   pub alts : Option Pattern
   pub branch : Branch
-  pub goes : (o : List Level) → length o ≡ d → outcome (state o None (must None)) s was.at ≡ outcome (state o alts (done branch)) s now.at
+  pub goes : (o : List Level) → length o ≡ was.depth → outcome (state o None (must None)) was.text.now was.at ≡ outcome (state o alts (done branch)) was.text.now now.at
   pub made : Made (tree (joined alts branch)) was now
-  pub ends : now.at < length s → There s now.at 41
+  pub ends : now.at < length was.text.now → There was.text.now now.at 41
 
 -- the text is refused from here, whatever stands before an atom
-abbrev pub AtomStops : List ℕ → ℕ → ℕ → Stop → Type 0
-AtomStops s d i e = (o : List Level) (a : Option Pattern) (p : Option Branch) → length o ≡ d → outcome (state o a (must p)) s i ≡ stopped e
+abbrev pub AtomStops : Reader → Stop → Type 0
+AtomStops was e = (o : List Level) (a : Option Pattern) (p : Option Branch) → length o ≡ was.depth → outcome (state o a (must p)) was.text.now was.at ≡ stopped e
 
-abbrev pub BranchStops : List ℕ → ℕ → ℕ → Stop → Type 0
-BranchStops s d i e = (o : List Level) (a : Option Pattern) → length o ≡ d → outcome (state o a (must None)) s i ≡ stopped e
+abbrev pub BranchStops : Reader → Stop → Type 0
+BranchStops was e = (o : List Level) (a : Option Pattern) → length o ≡ was.depth → outcome (state o a (must None)) was.text.now was.at ≡ stopped e
 
-abbrev pub PatternStops : List ℕ → ℕ → ℕ → Stop → Type 0
-PatternStops s d i e = (o : List Level) → length o ≡ d → outcome (state o None (must None)) s i ≡ stopped e
+abbrev pub PatternStops : Reader → Stop → Type 0
+PatternStops was e = (o : List Level) → length o ≡ was.depth → outcome (state o None (must None)) was.text.now was.at ≡ stopped e

@@ -115,65 +115,65 @@ fn whole(text: &[u8], nodes: &mut [Node]) -> Result<usize, Stop>
         nodes,
         at: 0,
         count: 0,
+        depth: 0,
     };
-    reader.pattern(0)?;
+    reader.pattern()?;
     if reader.at < text.len() {
         return Err(Stop::Off(reader.at));
     }
     Ok(reader.count)
 }
 
-// A text, and how far it has been read: the bytes taken, and the nodes made of them, which stand at the front of the
-// lent list as far as it has room.
+// A text, and how far it has been read: the bytes taken, the nodes made of them, which stand at the front of the lent
+// list as far as it has room, and the brackets open.
 #[derive(Drop)]
 struct Reader<'t, 'n> {
     text: &'t [u8],
     nodes: &'n mut [Node],
     at: usize,
     count: usize,
+    depth: usize,
     ghost short: { length text.now ≤ 4096 },
     ghost within: { at ≤ length text.now },
     ghost few: { count ≤ 2 * at },
+    ghost shallow: { depth ≤ 32 },
 }
 
 impl Reader<'_, '_> {
     ghost use Rattle.text.specs.Progress.{Took, Added, AtomRead, PieceRead, BranchRead, PatternRead, AtomStops, BranchStops, PatternStops};
 
     #[cycle(grammar)]
-    fn pattern(&mut self, depth: usize) -> Result<(), Stop>
-        requires shallow { depth ≤ 32 }
-        ensures { MatchResult result (λ _. PatternRead self.old.text.now depth self.old self.new) (λ e. PatternStops self.old.text.now depth self.old.at e) }
+    fn pattern(&mut self) -> Result<(), Stop>
+        ensures { MatchResult result (λ _. PatternRead self.old self.new) (PatternStops self.old) }
     {
         let from = self.count;
-        self.branch(depth)?;
+        self.branch()?;
         while self.eat(b'|') {
-            self.branch(depth)?;
+            self.branch()?;
             self.join(EITHER, from);
         }
         Ok(())
     }
 
     #[cycle(grammar)]
-    fn branch(&mut self, depth: usize) -> Result<(), Stop>
-        requires shallow { depth ≤ 32 }
-        ensures { MatchResult result (λ _. BranchRead self.old.text.now depth self.old self.new) (λ e. BranchStops self.old.text.now depth self.old.at e) }
+    fn branch(&mut self) -> Result<(), Stop>
+        ensures { MatchResult result (λ _. BranchRead self.old self.new) (BranchStops self.old) }
     {
         let from = self.count;
-        self.piece(depth)?;
+        self.piece()?;
         while !self.ends_branch() {
-            self.piece(depth)?;
+            self.piece()?;
             self.join(THEN, from);
         }
         Ok(())
     }
 
     #[cycle(grammar)]
-    fn piece(&mut self, depth: usize) -> Result<(), Stop>
-        requires shallow { depth ≤ 32 }
-        ensures { MatchResult result (λ _. PieceRead self.old.text.now depth self.old self.new) (λ e. AtomStops self.old.text.now depth self.old.at e) }
+    fn piece(&mut self) -> Result<(), Stop>
+        ensures { MatchResult result (λ _. PieceRead self.old self.new) (AtomStops self.old) }
     {
         let from = self.count;
-        self.atom(depth)?;
+        self.atom()?;
         while self.eat(b'*') {
             self.join(REPEAT, from);
         }
@@ -181,14 +181,13 @@ impl Reader<'_, '_> {
     }
 
     #[cycle(grammar)]
-    fn atom(&mut self, depth: usize) -> Result<(), Stop>
-        requires shallow { depth ≤ 32 }
-        ensures { MatchResult result (λ _. AtomRead self.old.text.now depth self.old self.new) (λ e. AtomStops self.old.text.now depth self.old.at e) }
+    fn atom(&mut self) -> Result<(), Stop>
+        ensures { MatchResult result (λ _. AtomRead self.old self.new) (AtomStops self.old) }
     {
         let b = self.peek()?;
         // A match on the bytes themselves was tried: its last arm does not tell the proof which bytes are left.
         match Class::from(b) {
-            Class::Open => self.group(depth),
+            Class::Open => self.group(),
             Class::Range => self.range(),
             Class::Escape => self.escaped(),
             Class::Dot => {
@@ -205,12 +204,11 @@ impl Reader<'_, '_> {
 
     // An atom in brackets, from its `(` on.
     #[cycle(grammar)]
-    fn group(&mut self, depth: usize) -> Result<(), Stop>
-        requires shallow { depth ≤ 32 }
-        requires opens { There self.old.text.now self.old.at 40 }
-        ensures { MatchResult result (λ _. AtomRead self.old.text.now depth self.old self.new) (λ e. AtomStops self.old.text.now depth self.old.at e) }
+    fn group(&mut self) -> Result<(), Stop>
+        requires { There self.old.text.now self.old.at 40 }
+        ensures { MatchResult result (λ _. AtomRead self.old self.new) (AtomStops self.old) }
     {
-        if depth >= MOST_DEPTH {
+        if self.depth >= MOST_DEPTH {
             return Err(Stop::Deep(self.at));
         }
         self.skip();
@@ -218,14 +216,16 @@ impl Reader<'_, '_> {
             self.push(inner(EMPTY, 1));
             return Ok(());
         }
-        self.pattern(depth + 1)?;
+        self.depth += 1;
+        self.pattern()?;
+        self.depth -= 1;
         self.expect(b')')
     }
 
     // `\` and the byte meant.
     fn escaped(&mut self) -> Result<(), Stop>
-        requires opens { There self.old.text.now self.old.at 92 }
-        ensures { (d : ℕ) → d ≤ 32 → MatchResult result (λ _. AtomRead self.old.text.now d self.old self.new) (λ e. AtomStops self.old.text.now d self.old.at e) }
+        requires { There self.old.text.now self.old.at 92 }
+        ensures { MatchResult result (λ _. AtomRead self.old self.new) (AtomStops self.old) }
     {
         self.skip();
         let b = self.peek()?;
@@ -235,8 +235,8 @@ impl Reader<'_, '_> {
 
     // `[l-h]`, from its `[` on.
     fn range(&mut self) -> Result<(), Stop>
-        requires opens { There self.old.text.now self.old.at 91 }
-        ensures { (d : ℕ) → d ≤ 32 → MatchResult result (λ _. AtomRead self.old.text.now d self.old self.new) (λ e. AtomStops self.old.text.now d self.old.at e) }
+        requires { There self.old.text.now self.old.at 91 }
+        ensures { MatchResult result (λ _. AtomRead self.old self.new) (AtomStops self.old) }
     {
         self.skip();
         let low = self.next()?;

@@ -18,19 +18,19 @@ abbrev pub decreases-piece : goal.decreases-piece
 decreases-piece l = 5 * (length l.self.now.text.now - l.self.now.at) + 2
 
 abbrev pub invariant-branch-loop-self : goal.invariant-branch-loop-self
-invariant-branch-loop-self l = Pieces l.fn.self.text.now l.depth l.fn.self l.self
+invariant-branch-loop-self l = Pieces l.fn.self l.self
 
 abbrev pub decreases-branch-loop-self : goal.decreases-branch-loop-self
 decreases-branch-loop-self l = length l.self.text.now - l.self.at
 
 abbrev pub invariant-pattern-loop-self : goal.invariant-pattern-loop-self
-invariant-pattern-loop-self l = Branches l.fn.self.text.now l.depth l.fn.self l.self
+invariant-pattern-loop-self l = Branches l.fn.self l.self
 
 abbrev pub decreases-pattern-loop-self : goal.decreases-pattern-loop-self
 decreases-pattern-loop-self l = length l.self.text.now - l.self.at
 
 abbrev pub invariant-piece-loop-self : goal.invariant-piece-loop-self
-invariant-piece-loop-self l = Starred l.fn.self.text.now l.depth l.fn.self l.self
+invariant-piece-loop-self l = Starred l.fn.self l.self
 
 abbrev pub decreases-piece-loop-self : goal.decreases-piece-loop-self
 decreases-piece-loop-self l = length l.self.text.now - l.self.at

@@ -9,13 +9,13 @@ use Rattle.text.proofs.Taking.{comes, past_end, added_more}
 use Rattle.text.proofs.reader.Reader.escaped.Goals as goal
 
 pub returns-in_err-b : goal.returns-in_err-b
-returns-in_err-b c d h =
+returns-in_err-b c =
     let t = c.in_err-b.ensures in
-    at_break c.from_residual.result _ (λ e. AtomStops c.args.self.now.text.now d c.args.self.now.at e) c.in_err-b.field-0.0 c.from_residual.ensures.1
-    (λ o a p e. escape_cut c.args.self.now.text.now c.args.self.now.at o a p (omega arith) c.requires.opens (past_end _ _ _ c.skip.ensures t.1) ∙ ap off (sym c.skip.ensures.at) ∙ sym (ap stopped t.0))
+    at_break c.from_residual.result _ (AtomStops c.args.self.now) c.in_err-b.field-0.0 c.from_residual.ensures.1
+    (λ o a p e. escape_cut c.args.self.now.text.now c.args.self.now.at o a p (omega (arith, c.args.self.now.shallow)) c.requires (past_end _ _ _ c.skip.ensures t.1) ∙ ap off (sym c.skip.ensures.at) ∙ sym (ap stopped t.0))
 
 pub returns : goal.returns
-returns c d h =
-    one_node (quoted c.in_ok-b.b) _ refl refl c.args.self.now.text.now d 2 c.args.self.now _
-    (λ o a p e. escape_goes c.args.self.now.text.now c.args.self.now.at o a p (omega arith) _ c.requires.opens (comes _ _ _ c.skip.ensures _ c.in_ok-b.ensures))
+returns c =
+    one_node (quoted c.in_ok-b.b) _ refl refl 2 c.args.self.now _
+    (λ o a p e. escape_goes c.args.self.now.text.now c.args.self.now.at o a p (omega (arith, c.args.self.now.shallow)) _ c.requires (comes _ _ _ c.skip.ensures _ c.in_ok-b.ensures))
     (omega arith) (added_more 1 1 _ _ _ c.skip.ensures _ (subst (λ n. Added 1 n c.skip.new.self c.take.new.self) c.leaf.ensures c.take.ensures))
