@@ -7,7 +7,6 @@ pub mod Verdicts
 pub mod Outcomes
 pub mod Taking
 pub mod Laying
-pub mod Exits
 pub mod Atoms
 pub mod Loops
 pub mod Groups

@@ -6,7 +6,7 @@ use Rattle.text.specs.Grammar.{Piece, once, star, Branch, one, more, Pattern, pi
 use Rattle.text.specs.Scan.{Level, must, done, state, appended, joined}
 use Rattle.text.specs.Steps.{outcome, stopped, There}
 use Rattle.text.specs.declared.reader.Stop.{Stop}
-use Rattle.text.specs.Progress.{Took, Added, Made, AtomRead, PieceRead, BranchRead, AtomStops, BranchStops, PatternStops}
+use Rattle.text.specs.Progress.{BranchEnds, BranchGoesOn, Took, Added, Made, AtomRead, PieceRead, BranchRead, AtomStops, BranchStops, PatternStops}
 use Rattle.text.proofs.Complete.{starred_last}
 use Rattle.text.proofs.Outcomes.{on, begins_piece}
 use Rattle.text.proofs.Laying.{paired, starred_made}
@@ -30,7 +30,7 @@ pub record Branches (was now : Reader) : Type 0 where
   pub branch : Branch
   pub goes : (o : List Level) → length o ≡ was.depth → outcome (state o None (must None)) was.text.now was.at ≡ outcome (state o alts (done branch)) was.text.now now.at
   pub made : Made (tree (joined alts branch)) was now
-  pub ends : now.at < length was.text.now → There was.text.now now.at 124 ⊎ There was.text.now now.at 41
+  pub ends : BranchEnds was.text.now now.at
 
 module _ (was : Reader) where
   pub unstarred : (now : Reader) → AtomRead was now → Starred was now
@@ -56,10 +56,10 @@ module _ (was : Reader) where
       }
 
   -- after some pieces that go on
-  module _ (half : Reader) (h : Pieces was half) (more_comes : (half.at < length half.text.now) × (There half.text.now half.at 124 → ⊥) × (There half.text.now half.at 41 → ⊥)) where
+  module _ (half : Reader) (h : Pieces was half) (more_comes : BranchGoesOn half.text.now half.at) where
     goes_on : (o : List Level) (a : Option Pattern) → length o ≡ was.depth → outcome (state o a (must None)) was.text.now was.at ≡ outcome (state o a (must (Some h.branch))) was.text.now half.at
     goes_on o a k =
-        let m = subst (λ s. (half.at < length s) × (There s half.at 124 → ⊥) × (There s half.at 41 → ⊥)) h.made.text more_comes in
+        let m = subst (λ s. BranchGoesOn s half.at) h.made.text more_comes in
         h.goes o a k ∙ begins_piece was.text.now o a h.branch half.at m.0 m.1 h.ends m.2
 
     pub piece_stops : (e : Stop) → AtomStops half e → BranchStops was e
@@ -110,5 +110,5 @@ module _ (was : Reader) where
               ∙ subst (λ s. outcome (state o (Some (joined h.alts h.branch)) (must None)) s mid.at ≡ outcome (state o (Some (joined h.alts h.branch)) (done r.branch)) s late.at) text_there (r.goes o (Some (joined h.alts h.branch)) (k ∙ sym depth_there))
               ∙ ap (outcome (state o (Some (joined h.alts h.branch)) (done r.branch)) was.text.now) (sym same);
           made = paired (tree (joined h.alts h.branch)) (branch_tree r.branch) (either (tree (joined h.alts h.branch)) (branch_tree r.branch)) 2 was half mid late now refl refl h.made 1 c.1 r.made e;
-          ends = subst (λ i. i < length was.text.now → There was.text.now i 124 ⊎ There was.text.now i 41) (sym same) (subst (λ s. late.at < length s → There s late.at 124 ⊎ There s late.at 41) text_there r.ends);
+          ends = subst (BranchEnds was.text.now) (sym same) (subst (λ s. BranchEnds s late.at) text_there r.ends);
         }

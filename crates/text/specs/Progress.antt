@@ -8,6 +8,22 @@ use Rattle.text.specs.Grammar.{Atom, Piece, once, Branch, Pattern, atom_tree, pi
 use Rattle.text.specs.Scan.{Level, state, must, done, appended, joined}
 use Rattle.text.specs.Steps.{outcome, stopped, There, laid}
 
+-- this byte comes next
+abbrev pub Comes : ℕ → Reader → Type 0
+Comes b r = There r.text.now r.at b
+
+-- no byte comes
+abbrev pub AtEnd : Reader → Type 0
+AtEnd r = length r.text.now ≤ r.at
+
+-- a branch ends at place i: at a bar, a closing bracket or the end of the text
+abbrev pub BranchEnds : List ℕ → ℕ → Type 0
+BranchEnds s i = i < length s → There s i 124 ⊎ There s i 41
+
+-- or it goes on there
+abbrev pub BranchGoesOn : List ℕ → ℕ → Type 0
+BranchGoesOn s i = (i < length s) × (There s i 124 → ⊥) × (There s i 41 → ⊥)
+
 -- bytes have been taken, and nothing else has changed
 pub record Took (n : ℕ) (was now : Reader) : Type 0 where
   pub text : now.text.now ≡ was.text.now
@@ -63,7 +79,7 @@ pub record BranchRead (was now : Reader) : Type 0 where
   pub branch : Branch
   pub goes : (o : List Level) (a : Option Pattern) → length o ≡ was.depth → outcome (state o a (must None)) was.text.now was.at ≡ outcome (state o a (done branch)) was.text.now now.at
   pub made : Made (branch_tree branch) was now
-  pub ends : now.at < length was.text.now → There was.text.now now.at 124 ⊎ There was.text.now now.at 41
+  pub ends : BranchEnds was.text.now now.at
 
 -- a pattern has been read, up to a closing bracket or the end
 pub record PatternRead (was now : Reader) : Type 0 where

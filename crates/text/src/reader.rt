@@ -140,7 +140,7 @@ struct Reader<'t, 'n> {
 }
 
 impl Reader<'_, '_> {
-    ghost use Rattle.text.specs.Progress.{Took, Added, AtomRead, PieceRead, BranchRead, PatternRead, AtomStops, BranchStops, PatternStops};
+    ghost use Rattle.text.specs.Progress.{AtEnd, BranchEnds, BranchGoesOn, Comes, Took, Added, AtomRead, PieceRead, BranchRead, PatternRead, AtomStops, BranchStops, PatternStops};
 
     #[cycle(grammar)]
     fn pattern(&mut self) -> Result<(), Stop>
@@ -205,7 +205,7 @@ impl Reader<'_, '_> {
     // An atom in brackets, from its `(` on.
     #[cycle(grammar)]
     fn group(&mut self) -> Result<(), Stop>
-        requires { There self.old.text.now self.old.at 40 }
+        requires { Comes 40 self.old }
         ensures { MatchResult result (λ _. AtomRead self.old self.new) (AtomStops self.old) }
     {
         if self.depth >= MOST_DEPTH {
@@ -224,7 +224,7 @@ impl Reader<'_, '_> {
 
     // `\` and the byte meant.
     fn escaped(&mut self) -> Result<(), Stop>
-        requires { There self.old.text.now self.old.at 92 }
+        requires { Comes 92 self.old }
         ensures { MatchResult result (λ _. AtomRead self.old self.new) (AtomStops self.old) }
     {
         self.skip();
@@ -235,7 +235,7 @@ impl Reader<'_, '_> {
 
     // `[l-h]`, from its `[` on.
     fn range(&mut self) -> Result<(), Stop>
-        requires { There self.old.text.now self.old.at 91 }
+        requires { Comes 91 self.old }
         ensures { MatchResult result (λ _. AtomRead self.old self.new) (AtomStops self.old) }
     {
         self.skip();
@@ -253,14 +253,14 @@ impl Reader<'_, '_> {
 
     // The byte to come, which every text has that goes on here.
     fn peek(&self) -> Result<u8, Stop>
-        ensures { MatchResult result (λ b. There self.now.text.now self.now.at b) (λ e. (e ≡ Stop.Off self.now.at) × (length self.now.text.now ≤ self.now.at)) }
+        ensures { MatchResult result (λ b. Comes b self.now) (λ e. (e ≡ Stop.Off self.now.at) × AtEnd self.now) }
     {
         self.text.get(self.at).copied().ok_or(Stop::Off(self.at))
     }
 
     // Takes the byte to come.
     fn next(&mut self) -> Result<u8, Stop>
-        ensures { MatchResult result (λ b. There self.old.text.now self.old.at b × Took 1 self.old self.new) (λ e. (e ≡ Stop.Off self.old.at) × (length self.old.text.now ≤ self.old.at)) }
+        ensures { MatchResult result (λ b. Comes b self.old × Took 1 self.old self.new) (λ e. (e ≡ Stop.Off self.old.at) × AtEnd self.old) }
     {
         let b = self.peek()?;
         self.skip();
@@ -269,7 +269,7 @@ impl Reader<'_, '_> {
 
     // Takes a byte that has to come.
     fn expect(&mut self, want: u8) -> Result<(), Stop>
-        ensures { MatchResult result (λ _. There self.old.text.now self.old.at want × Took 1 self.old self.new) (λ e. (e ≡ Stop.Off self.old.at) × (There self.old.text.now self.old.at want → ⊥)) }
+        ensures { MatchResult result (λ _. Comes want self.old × Took 1 self.old self.new) (λ e. (e ≡ Stop.Off self.old.at) × (¬ Comes want self.old)) }
     {
         if !self.eat(want) {
             return Err(Stop::Off(self.at));
@@ -279,7 +279,7 @@ impl Reader<'_, '_> {
 
     // Takes a byte if it comes, and says whether it did.
     fn eat(&mut self, want: u8) -> bool
-        ensures { MatchBool result (There self.old.text.now self.old.at want × Took 1 self.old self.new) ((There self.old.text.now self.old.at want → ⊥) × Took 0 self.old self.new) }
+        ensures { MatchBool result (Comes want self.old × Took 1 self.old self.new) ((¬ Comes want self.old) × Took 0 self.old self.new) }
     {
         let comes = self.text.get(self.at) == Some(&want);
         if comes {
@@ -290,7 +290,7 @@ impl Reader<'_, '_> {
 
     // Whether a branch ends here: at a bar, a closing bracket or the end.
     fn ends_branch(&self) -> bool
-        ensures { MatchBool result (self.now.at < length self.now.text.now → There self.now.text.now self.now.at 124 ⊎ There self.now.text.now self.now.at 41) ((self.now.at < length self.now.text.now) × (There self.now.text.now self.now.at 124 → ⊥) × (There self.now.text.now self.now.at 41 → ⊥)) }
+        ensures { MatchBool result (BranchEnds self.now.text.now self.now.at) (BranchGoesOn self.now.text.now self.now.at) }
     {
         matches!(self.text.get(self.at), None | Some(b'|' | b')'))
     }

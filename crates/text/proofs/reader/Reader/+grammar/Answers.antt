@@ -7,7 +7,7 @@ use Rattle.text.specs.Steps.{outcome, stopped, There}
 use Rattle.text.specs.Progress.{Added, AtomStops, BranchStops, PatternStops}
 use Rattle.text.proofs.Atoms.{dot_goes, plain_goes, begins_none, one_node}
 use Rattle.text.proofs.Bytes.{byte_is}
-use Rattle.text.proofs.Exits.{at_break}
+use Rattle.std.proofs.lemmas.Result.{err_from_is_err_and}
 use Rattle.text.proofs.Groups.{deep_group, unit_goes, group_stops, group_read}
 use Rattle.text.proofs.Loops.{unstarred, one_piece, one_branch, star_more, piece_stops, piece_more, branch_stops, branch_more}
 use Rattle.text.proofs.Taking.{comes, comes_not, took_more, added_more}
@@ -17,8 +17,8 @@ use Rattle.text.proofs.reader.Reader.+grammar.Goals as goal
 pub atom-returns-in_err-b : goal.atom-returns-in_err-b
 atom-returns-in_err-b t c =
     let e = c.in_err-b.ensures in
-    at_break c.from_residual.result _ (AtomStops c.args.self.now) c.in_err-b.field-0.0 c.from_residual.ensures.1
-    (λ o a p k. at_end c.args.self.now.text.now _ c.args.self.now.at e.1 ∙ sym (ap stopped e.0))
+    let p = err_from_is_err_and c.from_residual.result c.from_residual.ensures.1 in
+    rw (p.1, p.2) (λ o a p k. at_end c.args.self.now.text.now _ c.args.self.now.at e.1 ∙ sym (ap stopped e.0))
 
 pub atom-returns-in-Dot : goal.atom-returns-in-Dot
 atom-returns-in-Dot t c =
@@ -45,8 +45,8 @@ branch-loop-self-init t c = one_piece _ _ c.in_ok-piece.ensures
 
 pub branch-returns-in_err-piece-2 : goal.branch-returns-in_err-piece-2
 branch-returns-in_err-piece-2 t c =
-    at_break c.from_residual-in_err-piece-2.result _ (BranchStops c.args.self.now) c.in_err-piece-2.field-0.0 c.from_residual-in_err-piece-2.ensures.1
-    (piece_stops _ _ c.loop-self.invariant c.loop-self-test.ensures _ c.in_err-piece-2.ensures)
+    let p = err_from_is_err_and c.from_residual-in_err-piece-2.result c.from_residual-in_err-piece-2.ensures.1 in
+    rw (p.1, p.2) (piece_stops _ _ c.loop-self.invariant c.loop-self-test.ensures _ c.in_err-piece-2.ensures)
 
 pub branch-loop-self-preserved : goal.branch-loop-self-preserved
 branch-loop-self-preserved t c =
@@ -66,8 +66,8 @@ group-returns-then-eat t c =
 pub group-returns-in_err-pattern : goal.group-returns-in_err-pattern
 group-returns-in_err-pattern t c =
     let b = c.if-eat.ensures in
-    at_break c.from_residual.result _ (AtomStops c.args.self.now) c.in_err-pattern.field-0.0 c.from_residual.ensures.1
-    (group_stops _ _ c.if-self-ge-MOST_DEPTH.false c.requires (comes_not _ _ _ c.skip.ensures _ b.0) (took_more 1 0 _ _ _ c.skip.ensures b.1) _ c.in_err-pattern.ensures)
+    let p = err_from_is_err_and c.from_residual.result c.from_residual.ensures.1 in
+    rw (p.1, p.2) (group_stops _ _ c.if-self-ge-MOST_DEPTH.false c.requires (comes_not _ _ _ c.skip.ensures _ b.0) (took_more 1 0 _ _ _ c.skip.ensures b.1) _ c.in_err-pattern.ensures)
 
 pub group-returns : goal.group-returns
 group-returns t c =
@@ -76,8 +76,8 @@ group-returns t c =
 
 pub pattern-returns-in_err-branch-2 : goal.pattern-returns-in_err-branch-2
 pattern-returns-in_err-branch-2 t c =
-    at_break c.from_residual-in_err-branch-2.result _ (PatternStops c.args.self.now) c.in_err-branch-2.field-0.0 c.from_residual-in_err-branch-2.ensures.1
-    (branch_stops _ _ _ c.loop-self.invariant c.loop-self-test.ensures _ c.in_err-branch-2.ensures)
+    let p = err_from_is_err_and c.from_residual-in_err-branch-2.result c.from_residual-in_err-branch-2.ensures.1 in
+    rw (p.1, p.2) (branch_stops _ _ _ c.loop-self.invariant c.loop-self-test.ensures _ c.in_err-branch-2.ensures)
 
 pub pattern-loop-self-preserved : goal.pattern-loop-self-preserved
 pattern-loop-self-preserved t c =

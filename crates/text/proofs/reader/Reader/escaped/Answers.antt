@@ -4,15 +4,15 @@ use Rattle.text.specs.Progress.{Added, AtomStops}
 use Rattle.text.specs.Scan.{off}
 use Rattle.text.specs.Steps.{stopped}
 use Rattle.text.proofs.Atoms.{escape_cut, escape_goes, one_node}
-use Rattle.text.proofs.Exits.{at_break}
+use Rattle.std.proofs.lemmas.Result.{err_from_is_err_and}
 use Rattle.text.proofs.Taking.{comes, past_end, added_more}
 use Rattle.text.proofs.reader.Reader.escaped.Goals as goal
 
 pub returns-in_err-b : goal.returns-in_err-b
 returns-in_err-b c =
     let t = c.in_err-b.ensures in
-    at_break c.from_residual.result _ (AtomStops c.args.self.now) c.in_err-b.field-0.0 c.from_residual.ensures.1
-    (λ o a p e. escape_cut c.args.self.now.text.now c.args.self.now.at o a p (omega (arith, c.args.self.now.shallow)) c.requires (past_end _ _ _ c.skip.ensures t.1) ∙ ap off (sym c.skip.ensures.at) ∙ sym (ap stopped t.0))
+    let p = err_from_is_err_and c.from_residual.result c.from_residual.ensures.1 in
+    rw (p.1, p.2) (λ o a p e. escape_cut c.args.self.now.text.now c.args.self.now.at o a p (omega (arith, c.args.self.now.shallow)) c.requires (past_end _ _ _ c.skip.ensures t.1) ∙ ap off (sym c.skip.ensures.at) ∙ sym (ap stopped t.0))
 
 pub returns : goal.returns
 returns c =

@@ -4,7 +4,7 @@ use Rattle.text.specs.Progress.{Took, Added, AtomStops}
 use Rattle.text.specs.Scan.{off}
 use Rattle.text.specs.Steps.{stopped}
 use Rattle.text.proofs.Atoms.{low_cut, dash_cut, high_cut, out_of_order, close_cut, range_goes, one_node}
-use Rattle.text.proofs.Exits.{at_break}
+use Rattle.std.proofs.lemmas.Result.{err_from_is_err_and}
 use Rattle.text.proofs.Taking.{comes, comes_not, past_end, took_more, added_more}
 use Rattle.text.proofs.reader.Reader.range.Goals as goal
 
@@ -12,16 +12,16 @@ pub returns-in_err-low : goal.returns-in_err-low
 returns-in_err-low c =
     let t = c.in_err-low.ensures in
     let one = c.skip.ensures in
-    at_break c.from_residual.result _ (AtomStops c.args.self.now) c.in_err-low.field-0.0 c.from_residual.ensures.1
-    (λ o a p e. low_cut c.args.self.now.text.now c.args.self.now.at o a p (omega (arith, c.args.self.now.shallow)) c.requires (past_end _ _ _ one t.1) ∙ ap off (sym one.at) ∙ sym (ap stopped t.0))
+    let p = err_from_is_err_and c.from_residual.result c.from_residual.ensures.1 in
+    rw (p.1, p.2) (λ o a p e. low_cut c.args.self.now.text.now c.args.self.now.at o a p (omega (arith, c.args.self.now.shallow)) c.requires (past_end _ _ _ one t.1) ∙ ap off (sym one.at) ∙ sym (ap stopped t.0))
 
 pub returns-in_err-expect : goal.returns-in_err-expect
 returns-in_err-expect c =
     let t = c.in_err-expect.ensures in
     let one = c.skip.ensures in
     let two : Took 2 c.args.self.now c.next.new.self = took_more 1 1 _ _ _ one c.in_ok-low.ensures.1 in
-    at_break c.from_residual-in_err-expect.result _ (AtomStops c.args.self.now) c.in_err-expect.field-0.0 c.from_residual-in_err-expect.ensures.1
-    (λ o a p e. dash_cut c.args.self.now.text.now c.args.self.now.at o a p (omega (arith, c.args.self.now.shallow)) _ c.requires (comes _ _ _ one _ c.in_ok-low.ensures.0) (comes_not _ _ _ two _ t.1) ∙ ap off (sym two.at) ∙ sym (ap stopped t.0))
+    let p = err_from_is_err_and c.from_residual-in_err-expect.result c.from_residual-in_err-expect.ensures.1 in
+    rw (p.1, p.2) (λ o a p e. dash_cut c.args.self.now.text.now c.args.self.now.at o a p (omega (arith, c.args.self.now.shallow)) _ c.requires (comes _ _ _ one _ c.in_ok-low.ensures.0) (comes_not _ _ _ two _ t.1) ∙ ap off (sym two.at) ∙ sym (ap stopped t.0))
 
 pub returns-in_err-high : goal.returns-in_err-high
 returns-in_err-high c =
@@ -29,8 +29,8 @@ returns-in_err-high c =
     let one = c.skip.ensures in
     let two : Took 2 c.args.self.now c.next.new.self = took_more 1 1 _ _ _ one c.in_ok-low.ensures.1 in
     let three : Took 3 c.args.self.now c.expect.new.self = took_more 2 1 _ _ _ two c.in_ok-expect.ensures.1 in
-    at_break c.from_residual-in_err-high.result _ (AtomStops c.args.self.now) c.in_err-high.field-0.0 c.from_residual-in_err-high.ensures.1
-    (λ o a p e. high_cut c.args.self.now.text.now c.args.self.now.at o a p (omega (arith, c.args.self.now.shallow)) _ c.requires (comes _ _ _ one _ c.in_ok-low.ensures.0) (comes _ _ _ two _ c.in_ok-expect.ensures.0) (past_end _ _ _ three t.1) ∙ ap off (sym three.at) ∙ sym (ap stopped t.0))
+    let p = err_from_is_err_and c.from_residual-in_err-high.result c.from_residual-in_err-high.ensures.1 in
+    rw (p.1, p.2) (λ o a p e. high_cut c.args.self.now.text.now c.args.self.now.at o a p (omega (arith, c.args.self.now.shallow)) _ c.requires (comes _ _ _ one _ c.in_ok-low.ensures.0) (comes _ _ _ two _ c.in_ok-expect.ensures.0) (past_end _ _ _ three t.1) ∙ ap off (sym three.at) ∙ sym (ap stopped t.0))
 
 pub returns-then-high-low : goal.returns-then-high-low
 returns-then-high-low c o a p e =
@@ -46,8 +46,8 @@ returns-in_err-expect-2 c =
     let two : Took 2 c.args.self.now c.next.new.self = took_more 1 1 _ _ _ one c.in_ok-low.ensures.1 in
     let three : Took 3 c.args.self.now c.expect.new.self = took_more 2 1 _ _ _ two c.in_ok-expect.ensures.1 in
     let four : Took 4 c.args.self.now c.skip-2.new.self = took_more 3 1 _ _ _ three c.skip-2.ensures in
-    at_break c.from_residual-in_err-expect-2.result _ (AtomStops c.args.self.now) c.in_err-expect-2.field-0.0 c.from_residual-in_err-expect-2.ensures.1
-    (λ o a p e. close_cut c.args.self.now.text.now c.args.self.now.at o a p (omega (arith, c.args.self.now.shallow)) _ c.requires (comes _ _ _ one _ c.in_ok-low.ensures.0) (comes _ _ _ two _ c.in_ok-expect.ensures.0) _ (comes _ _ _ three _ c.in_ok-high.ensures) c.if-high-low.false (comes_not _ _ _ four _ t.1) ∙ ap off (sym four.at) ∙ sym (ap stopped t.0))
+    let p = err_from_is_err_and c.from_residual-in_err-expect-2.result c.from_residual-in_err-expect-2.ensures.1 in
+    rw (p.1, p.2) (λ o a p e. close_cut c.args.self.now.text.now c.args.self.now.at o a p (omega (arith, c.args.self.now.shallow)) _ c.requires (comes _ _ _ one _ c.in_ok-low.ensures.0) (comes _ _ _ two _ c.in_ok-expect.ensures.0) _ (comes _ _ _ three _ c.in_ok-high.ensures) c.if-high-low.false (comes_not _ _ _ four _ t.1) ∙ ap off (sym four.at) ∙ sym (ap stopped t.0))
 
 pub returns : goal.returns
 returns c =
