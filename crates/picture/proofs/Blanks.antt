@@ -1,5 +1,5 @@
 -- The blanks that an empty text is filled up with. Assumes nothing.
-use Rattle.std.proofs.Common.{◌≡◌, ℕ, zero, suc, ◌-◌, ◌^◌, Bool, true, false, cond, ◌&&◌, eqb, List, [], ◌∷◌, replicate, sym, refl, ap, ◌∙◌, arith, true-eqb}
+use Rattle.std.proofs.Common.{◌≡◌, ℕ, zero, suc, ◌-◌, ◌^◌, Bool, true, false, cond, ◌&&◌, eqb, [], ◌∷◌, replicate, sym, refl, ap, ◌∙◌, arith, true-eqb}
 use Rattle.std.specs.Fmt.{styled_text, padded, take_chars, char_count, format_spec}
 use Rattle.std.specs.List.{repeat}
 use lib.Utf8.{encode}

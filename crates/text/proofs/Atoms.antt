@@ -1,5 +1,5 @@
 -- How the text goes on after each kind of atom. Assumes nothing.
-use Rattle.std.proofs.Common.{◌≡◌, ℕ, ◌+◌, ◌<◌, ◌≤◌, Bool, true, false, eqb, List, [], ◌∷◌, length, set, None, Option, sym, refl, ap, ◌∙◌, arith, lit≤, le-leb, true-eqb}
+use Rattle.std.proofs.Common.{◌≡◌, ℕ, ◌+◌, ◌<◌, ◌≤◌, Bool, true, false, eqb, List, [], ◌∷◌, length, None, Option, sym, refl, ap, ◌∙◌, arith, lit≤, le-leb, true-eqb}
 use borrow.Author.Tests.{lt-leb}
 use Rattle.table.specs.declared.node.Node.{Node}
 use Rattle.table.specs.Tree.{size, postfix}

@@ -7,9 +7,9 @@ use Rattle.text.specs.declared.reader.Reader.{Reader}
 use Rattle.text.specs.declared.reader.Stop.{Stop}
 use Rattle.text.specs.declared.reader.Stop.TheVariants.{Off}
 use Rattle.text.specs.Grammar.{unit, group, once, Branch, Pattern, tree}
-use Rattle.text.specs.Scan.{Level, must, opened, done, state, level, appended, joined, off, deep}
+use Rattle.text.specs.Scan.{Level, must, opened, done, state, level, appended, joined, deep}
 use Rattle.text.specs.Steps.{outcome, stopped, There, laid}
-use Rattle.text.specs.Progress.{Took, Inside, AtomRead, PatternRead, AtomStops, PatternStops}
+use Rattle.text.specs.Progress.{Took, Inside, AtomRead, PatternRead, AtomStops}
 use Rattle.text.proofs.Outcomes.{on, too_deep, at_end, begins_group}
 
 module _ (s : List ℕ) (i : ℕ) (h : There s i 40) (o : List Level) (a : Option Pattern) (p : Option Branch) where

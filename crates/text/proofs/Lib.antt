@@ -8,6 +8,7 @@ pub mod Outcomes
 pub mod Taking
 pub mod Laying
 pub mod Atoms
+pub mod Ranges
 pub mod Loops
 pub mod Groups
 pub mod Unique

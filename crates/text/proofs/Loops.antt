@@ -1,5 +1,5 @@
 -- What each loop of the reader has read so far, and one turn more. Assumes nothing.
-use Rattle.std.proofs.Common.{◌≡◌, ◌+◌, ◌-◌, ◌<◌, ◌⊎◌, List, length, Some, None, Option, sym, refl, ap, ◌∙◌, subst, arith}
+use Rattle.std.proofs.Common.{◌≡◌, ◌+◌, ◌-◌, List, length, Some, None, Option, sym, refl, ap, ◌∙◌, subst, arith}
 use Rattle.table.specs.Tree.{then, either, repeat, inner}
 use Rattle.text.specs.declared.reader.Reader.{Reader}
 use Rattle.text.specs.Grammar.{Piece, once, star, Branch, one, more, Pattern, piece_tree, branch_tree, tree}

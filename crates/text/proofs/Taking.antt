@@ -1,5 +1,5 @@
 -- Bytes taken one after the other, and the places that a reader comes to. Assumes nothing.
-use Rattle.std.proofs.Common.{◌≡◌, ℕ, ◌+◌, ◌≤◌, length, set, sym, ap, ◌∙◌, subst, arith}
+use Rattle.std.proofs.Common.{ℕ, ◌+◌, ◌≤◌, length, set, sym, ap, ◌∙◌, subst, arith}
 use Rattle.table.specs.declared.node.Node.{Node}
 use Rattle.text.specs.declared.reader.Reader.{Reader}
 use Rattle.text.specs.Progress.{Took, Added}

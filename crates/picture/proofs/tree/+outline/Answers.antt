@@ -1,7 +1,6 @@
-use Rattle.std.proofs.Common.{◌++◌, string_bytes, refl, ap, ◌∙◌}
+use Rattle.std.proofs.Common.{string_bytes}
 use Rattle.picture.proofs.Trees.{outlined_more, outlined_none}
 use Rattle.picture.proofs.tree.+outline.Goals as goal
-use Rattle.std.proofs.lemmas.Slice.{pushed}
 use Rattle.std.proofs.lemmas.Result.{IfOk-weaker}
 
 pub returns-in_default : goal.returns-in_default

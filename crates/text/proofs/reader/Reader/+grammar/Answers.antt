@@ -1,17 +1,17 @@
-use Rattle.std.proofs.Common.{◌≡◌, ◌+◌, Some, None, sym, refl, ap, ◌∙◌, subst, inl, inr, ⊎_elim, arith}
+use Rattle.std.proofs.Common.{◌≡◌, None, sym, refl, ap, ◌∙◌, subst, ⊎_elim, arith}
 use Rattle.text.specs.declared.reader.Class.TheVariants.{Bar, Star, Shut, Dot, Right}
 use Rattle.text.specs.declared.reader.Class.{Class}
 use Rattle.text.specs.Grammar.{any, plain, unit}
-use Rattle.text.specs.Scan.{state, must, done, joined, begin}
-use Rattle.text.specs.Steps.{outcome, stopped, There}
-use Rattle.text.specs.Progress.{Added, AtomStops, BranchStops, PatternStops}
+use Rattle.text.specs.Scan.{begin}
+use Rattle.text.specs.Steps.{stopped, There}
+use Rattle.text.specs.Progress.{Added}
 use Rattle.text.proofs.Atoms.{dot_goes, plain_goes, begins_none, one_node}
 use Rattle.text.proofs.Bytes.{byte_is}
 use Rattle.std.proofs.lemmas.Result.{err_from_is_err_and}
 use Rattle.text.proofs.Groups.{deep_group, unit_goes, group_stops, group_read}
-use Rattle.text.proofs.Loops.{unstarred, one_piece, one_branch, star_more, piece_stops, piece_more, branch_stops, branch_more}
+use Rattle.text.proofs.Loops.{unstarred, one_piece, star_more, piece_stops, piece_more, branch_stops, branch_more}
 use Rattle.text.proofs.Taking.{comes, comes_not, took_more, added_more}
-use Rattle.text.proofs.Outcomes.{at_end, begins_piece, on}
+use Rattle.text.proofs.Outcomes.{at_end}
 use Rattle.text.proofs.reader.Reader.+grammar.Goals as goal
 
 pub atom-returns-in_err-b : goal.atom-returns-in_err-b
