@@ -126,6 +126,9 @@ fn whole(text: &[u8], nodes: &mut [Node]) -> Result<usize, Stop>
 
 // A text, and how far it has been read: the bytes taken, the nodes made of them, which stand at the front of the lent
 // list as far as it has room, and the brackets open.
+//
+// The count stands beside the list: the list is lent, since this crate takes nothing from the heap, and the nodes that
+// it has no room for are counted too.
 #[derive(Drop)]
 struct Reader<'t, 'n> {
     text: &'t [u8],
@@ -322,7 +325,8 @@ impl Reader<'_, '_> {
         self.push(inner(kind, size as u16));
     }
 
-    // One node more, written where the lent list has room for it.
+    // One node more, written where the lent list has room for it. By `get_mut`, which was tried, the proof does not learn
+    // what is written.
     fn push(&mut self, node: Node)
         requires { self.old.count + 1 ≤ 2 * self.old.at }
         ensures { Added 0 node self.old self.new }
