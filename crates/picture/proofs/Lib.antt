@@ -1,3 +1,3 @@
-pub mod Lines
+pub mod Blanks
 pub mod Reports
 pub mod Trees

@@ -1,11 +1,11 @@
 // How one pattern was understood.
-ghost use Rattle.std.specs.Prelude.{◌≡◌, length, IfOk, string_bytes};
+ghost use Rattle.std.specs.Prelude.{length, IfOk, string_bytes};
 ghost use Rattle.picture.specs.Outline.{Outlined, counted};
-ghost use Rattle.picture.specs.Report.{Below, Reported, page};
+ghost use Rattle.picture.specs.Report.{Below, Reported};
 
-use crate::show::shown_text;
+use crate::show::Shown;
 use crate::tree::outline;
-use crate::wrong::refused;
+use crate::wrong::Refused;
 use std::alloc::{AllocError, Global};
 use table::Node;
 use text::table_of;
@@ -14,15 +14,8 @@ use text::table_of;
 pub fn report(heap: Global, title: &str, text: &[u8]) -> Result<String, AllocError>
     ensures { IfOk result (λ s. Reported title.now text.now (string_bytes s)) }
 {
-    let shown = shown_text(heap, text)?;
+    let shown = Shown(text);
     let below = below(heap, text)?;
-    page(heap, title, shown.as_str(), below.as_str())
-}
-
-// The line with title and text, and what stands below it.
-fn page(heap: Global, title: &str, shown: &str, below: &str) -> Result<String, AllocError>
-    ensures { IfOk result (λ s. string_bytes s ≡ page title.now shown.now below.now) }
-{
     format!(in heap; "{title}: {shown}\n{below}")
 }
 
@@ -32,7 +25,7 @@ fn below(heap: Global, text: &[u8]) -> Result<String, AllocError>
 {
     match table_of(text) {
         Ok(table) => understood(heap, table.nodes()),
-        Err(fault) => refused(heap, text, fault),
+        Err(fault) => Refused { text, fault }.to_string(heap),
     }
 }
 
@@ -43,6 +36,6 @@ fn understood(heap: Global, nodes: &[Node]) -> Result<String, AllocError>
     let count = nodes.len();
     let noun = if count == 1 { "node" } else { "nodes" };
     let mut out = format!(in heap; "{count} {noun}\n")?;
-    outline(heap, &mut out, nodes, 0)?;
+    outline(&mut out, nodes, 0)?;
     Ok(out)
 }

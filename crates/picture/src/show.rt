@@ -1,19 +1,19 @@
 // Bytes and nodes in a person's words, all of it plain ASCII.
-ghost use Rattle.std.specs.Prelude.{◌≡◌, ◌<◌, map, IfOk, string_bytes};
-ghost use Rattle.picture.specs.Words.{printable, shown_byte, symbol, span, leaf_words, node_words};
+ghost use Rattle.std.specs.Prelude.{◌≡◌, ◌<◌, map, Some};
+ghost use Rattle.picture.specs.Words.{printable, shown_byte, symbol, leaf_words, node_words};
 
-use std::alloc::{AllocError, Global};
+use std::fmt;
 use table::{Node, NodeKind};
 
 // Whether a byte is printable ASCII, the blank among it.
-pub fn is_printable(byte: u32) -> bool
+fn is_printable(byte: u32) -> bool
     ensures { result ≡ printable byte }
 {
-    32 <= byte && byte <= 126
+    (32..=126).contains(&byte)
 }
 
 // The character that stands for a byte of a text: itself where it is printable, else `?`.
-pub fn shown(byte: u8) -> char
+fn glyph(byte: u8) -> char
     ensures value { result ≡ shown_byte byte }
     ensures ascii { result < 128 }
 {
@@ -25,66 +25,88 @@ pub fn shown(byte: u8) -> char
 }
 
 // A text as it is shown, a character for each byte, so that a mark below it stands under its place.
-pub fn shown_text(heap: Global, text: &[u8]) -> Result<String, AllocError>
-    ensures { IfOk result (λ s. string_bytes s ≡ map shown_byte text.now) }
-{
-    let mut out = String::new(heap);
-    for byte in text {
-        out.push(shown(*byte))?;
+#[derive(Clone, Copy)]
+pub struct Shown<'a>(pub &'a [u8]);
+
+impl fmt::Display for Shown<'_> {
+    ghost output = { λ t. Some (map shown_byte t.0.now) };
+
+    fn fmt<W: fmt::Write>(&self, f: &mut fmt::Formatter<W>) -> fmt::Result {
+        let bytes = self.0;
+        for byte in bytes {
+            f.write_char(glyph(*byte))?;
+        }
+        Ok(())
     }
-    Ok(out)
 }
 
 // A byte that a leaf names: in quotes where it is printable, else its number.
-fn named(heap: Global, byte: u32) -> Result<String, AllocError>
-    ensures { IfOk result (λ s. string_bytes s ≡ symbol byte) }
-{
-    if is_printable(byte) {
-        let c = byte as u8 as char;
-        format!(in heap; "'{c}'")
-    } else {
-        format!(in heap; "{byte}")
+#[derive(Clone, Copy)]
+struct Symbol(u32);
+
+impl fmt::Display for Symbol {
+    ghost output = { λ s. Some (symbol s.0) };
+
+    fn fmt<W: fmt::Write>(&self, f: &mut fmt::Formatter<W>) -> fmt::Result {
+        let byte = self.0;
+        if is_printable(byte) {
+            let c = byte as u8 as char;
+            write!(f, "'{c}'")
+        } else {
+            write!(f, "{byte}")
+        }
+    }
+}
+
+// The bytes that pass a leaf, from the first to the last.
+#[derive(Clone, Copy)]
+struct Span {
+    low: u32,
+    high: u32,
+}
+
+impl fmt::Display for Span {
+    ghost output = { λ s. Some (leaf_words s.low s.high) };
+
+    fn fmt<W: fmt::Write>(&self, f: &mut fmt::Formatter<W>) -> fmt::Result {
+        let Span { low, high } = *self;
+        let first = Symbol(low);
+        let last = Symbol(high);
+        if low == 0 && high == 255 {
+            f.write_str("any byte")
+        } else if low != high {
+            write!(f, "a byte from {first} to {last}")
+        } else if is_printable(low) {
+            write!(f, "the byte {first}")
+        } else {
+            write!(f, "byte {first}")
+        }
     }
 }
 
 // What a node asks of a line, without its operands.
-pub fn words(heap: Global, node: &Node) -> Result<String, AllocError>
-    ensures { IfOk result (λ s. string_bytes s ≡ node_words node.now) }
-{
-    match NodeKind::try_from(node.kind) {
-        Ok(NodeKind::Empty) => String::from_str(heap, "nothing"),
-        Ok(NodeKind::Leaf) => leaf_words(heap, node.low, node.high),
-        Ok(NodeKind::Either) => String::from_str(heap, "one of these two"),
-        Ok(NodeKind::Then) => String::from_str(heap, "these two in turn"),
-        Ok(NodeKind::Repeat) => String::from_str(heap, "any number of"),
-        // A checked table has no other kind.
-        Err(_) => String::from_str(heap, "an unknown node"),
-    }
-}
+#[derive(Clone, Copy)]
+pub struct Words<'a>(pub &'a Node);
 
-// The bytes that pass a leaf.
-fn leaf_words(heap: Global, low: u32, high: u32) -> Result<String, AllocError>
-    ensures { IfOk result (λ s. string_bytes s ≡ leaf_words low high) }
-{
-    if low == 0 && high == 255 {
-        return String::from_str(heap, "any byte");
-    }
-    if low != high {
-        return span_words(heap, low, high);
-    }
-    let only = named(heap, low)?;
-    if is_printable(low) {
-        format!(in heap; "the byte {only}")
-    } else {
-        format!(in heap; "byte {only}")
-    }
-}
+impl fmt::Display for Words<'_> {
+    ghost output = { λ w. Some (node_words w.0.now) };
 
-// The bytes from one to another, both among them.
-fn span_words(heap: Global, low: u32, high: u32) -> Result<String, AllocError>
-    ensures { IfOk result (λ s. string_bytes s ≡ span low high) }
-{
-    let first = named(heap, low)?;
-    let last = named(heap, high)?;
-    format!(in heap; "a byte from {first} to {last}")
+    fn fmt<W: fmt::Write>(&self, f: &mut fmt::Formatter<W>) -> fmt::Result {
+        let node = self.0;
+        match NodeKind::try_from(node.kind) {
+            Ok(NodeKind::Empty) => f.write_str("nothing"),
+            Ok(NodeKind::Leaf) => {
+                let span = Span {
+                    low: node.low,
+                    high: node.high,
+                };
+                span.fmt(f)
+            }
+            Ok(NodeKind::Either) => f.write_str("one of these two"),
+            Ok(NodeKind::Then) => f.write_str("these two in turn"),
+            Ok(NodeKind::Repeat) => f.write_str("any number of"),
+            // A checked table has no other kind.
+            Err(_) => f.write_str("an unknown node"),
+        }
+    }
 }

@@ -1,15 +1,16 @@
 -- How the text goes on after each kind of atom. Assumes nothing.
-use Rattle.std.proofs.Common.{◌≡◌, ℕ, ◌+◌, ◌<◌, ◌≤◌, Bool, true, false, eqb, List, [], ◌∷◌, length, set, None, Option, sym, refl, ap, ◌∙◌, arith, lit≤, le-leb, true-eqb}
+use Rattle.std.proofs.Common.{◌≡◌, ℕ, ◌+◌, ◌<◌, ◌≤◌, Bool, true, false, eqb, List, [], ◌∷◌, length, None, Option, sym, refl, ap, ◌∙◌, arith, lit≤, le-leb, true-eqb}
 use borrow.Author.Tests.{lt-leb}
 use Rattle.table.specs.declared.node.Node.{Node}
 use Rattle.table.specs.Tree.{size, postfix}
-use Rattle.text.specs.declared.reader.Reached.{Reached}
+use Rattle.text.specs.declared.reader.Reader.{Reader}
 use Rattle.text.specs.declared.reader.Class.{Class}
 use Rattle.text.specs.declared.reader.Class.TheVariants.{Plain}
 use Rattle.text.specs.Classes.{class_of}
 use Rattle.text.specs.Grammar.{Atom, any, range, quoted, plain, once, Branch, Pattern, atom_tree}
 use Rattle.text.specs.Scan.{Level, must, done, escape, low, dash, high, close, State, state, appended, begin, only_if, off}
-use Rattle.text.specs.Steps.{outcome, There, AtomRead}
+use Rattle.text.specs.Steps.{outcome, There}
+use Rattle.text.specs.Progress.{Added, AtomRead}
 use Rattle.text.proofs.Complete.{feed_byte}
 use Rattle.text.proofs.Outcomes.{on, stops, at_end, wants, feed_none}
 use Rattle.text.proofs.Laying.{single}
@@ -29,8 +30,8 @@ module _ (s : List ℕ) (i : ℕ) (o : List Level) (a : Option Pattern) (p : Opt
   pub escape_cut : There s i 92 → length s ≤ i + 1 → outcome (state o a (must p)) s i ≡ off (i + 1)
   escape_cut h e = after_escape h ∙ at_end s _ (i + 1) e
 
-  pub escape_goes : (b : ℕ) → There s i 92 → There s (i + 1) b → outcome (state o a (must p)) s i ≡ outcome (state o a (done (appended p (once (quoted b))))) s (i + 1 + 1)
-  escape_goes b h k = after_escape h ∙ on s _ _ (i + 1) (i + 1 + 1) b refl k (feed_byte (state o a (escape p)) b k.small) few
+  pub escape_goes : (b : ℕ) → There s i 92 → There s (i + 1) b → outcome (state o a (must p)) s i ≡ outcome (state o a (done (appended p (once (quoted b))))) s (i + 2)
+  escape_goes b h k = after_escape h ∙ on s _ _ (i + 1) (i + 2) b (omega arith) k (feed_byte (state o a (escape p)) b k.small) few
 
   -- [l-h]
   after_bracket : There s i 91 → outcome (state o a (must p)) s i ≡ outcome (state o a (low p)) s (i + 1)
@@ -78,10 +79,10 @@ module _ (s : List ℕ) (i : ℕ) (o : List Level) (a : Option Pattern) (p : Opt
   pub begins_none : (b : ℕ) (k : Class) → There s i b → class_of b ≡ k → begin o a p b k ≡ None → outcome (state o a (must p)) s i ≡ off i
   begins_none b k h e n = stops s (state o a (must p)) i b h (feed_none (state o a (must p)) b (ap (begin o a p b) e ∙ n))
 
--- an atom of one node, up to place j
-pub one_node : (x : Atom) (n : Node) → postfix (atom_tree x) ≡ n ∷ [] → size (atom_tree x) ≡ 1 → (s : List ℕ) (d j : ℕ) (before : List Node) (from : Reached) (after : List Node) (to : Reached) (m : Node) → ((o : List Level) (a : Option Pattern) (p : Option Branch) → length o ≡ d → outcome (state o a (must p)) s from.at ≡ outcome (state o a (done (appended p (once x)))) s j) → (from.at < j) × (j ≤ length s) → (to.at ≡ j) × (to.count ≡ from.count + 1) → m ≡ n → after ≡ set before from.count m → AtomRead s d before from after to
-one_node x n e k s d j before from after to m goes fits reached same w = record {
+-- an atom of one node, after j bytes
+pub one_node : (x : Atom) (n : Node) → postfix (atom_tree x) ≡ n ∷ [] → size (atom_tree x) ≡ 1 → (j : ℕ) (was now : Reader) → ((o : List Level) (a : Option Pattern) (p : Option Branch) → length o ≡ was.depth → outcome (state o a (must p)) was.text.now was.at ≡ outcome (state o a (done (appended p (once x)))) was.text.now (was.at + j)) → 0 < j → Added j n was now → AtomRead was now
+one_node x n e k j was now goes pos m = record {
   atom = x;
-  goes = λ o a p h. goes o a p h ∙ ap (outcome (state o a (done (appended p (once x)))) s) (sym reached.0);
-  made = single (atom_tree x) n s before from after to e k (w ∙ ap (set before from.count) same) reached.1 (omega arith) (omega arith);
+  goes = λ o a p h. goes o a p h ∙ ap (outcome (state o a (done (appended p (once x)))) was.text.now) (sym m.at);
+  made = single (atom_tree x) n j was now e k pos m;
 }

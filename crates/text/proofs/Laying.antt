@@ -4,8 +4,9 @@ use Rattle.std.proofs.lemmas.List.{take_more_set, drop-set-lt}
 use Rattle.table.specs.declared.node.Node.{Node}
 use Rattle.table.specs.Tree.{Tree, size, postfix, inner}
 use Rattle.table.proofs.Postfix.{length_postfix}
-use Rattle.text.specs.declared.reader.Reached.{Reached}
-use Rattle.text.specs.Steps.{laid, Made}
+use Rattle.text.specs.declared.reader.Reader.{Reader}
+use Rattle.text.specs.Progress.{Took, Added, Made}
+use Rattle.text.specs.Steps.{laid}
 
 pub laid_append : (ns : List Node) (i : ℕ) (xs ys : List Node) → laid ns i (xs ++ ys) ≡ laid (laid ns i xs) (i + length xs) ys
 laid_append ns i [] ys = ap (λ k. laid ns k ys) (sym (add-zero i))
@@ -30,38 +31,43 @@ laid_then : (ns : List Node) (i : ℕ) (xs ys ms : List Node) (j : ℕ) → ms �
 laid_then ns i xs ys ms j e f = laid_append ns i xs ys ∙ (λ d. laid (sym e d) (f d) ys)
 
 -- one node
-pub single : (t : Tree) (n : Node) (s : List ℕ) (before : List Node) (from : Reached) (after : List Node) (to : Reached) → postfix t ≡ n ∷ [] → size t ≡ 1 → after ≡ set before from.count n → to.count ≡ from.count + 1 → from.at < to.at → to.at ≤ length s → Made t s before from after to
-single t n s before from after to p one e k f w = record {
-  count = k ∙ ap (λ x. from.count + x) (sym one);
-  nodes = e ∙ ap (laid before from.count) (sym p);
-  forward = f;
-  within = w;
-  few = omega arith;
+pub single : (t : Tree) (n : Node) (j : ℕ) (was now : Reader) → postfix t ≡ n ∷ [] → size t ≡ 1 → 0 < j → Added j n was now → Made t was now
+single t n j was now p one pos a = record {
+  text = a.text;
+  list = a.list;
+  nodes = a.nodes ∙ ap (laid was.nodes.now was.count) (sym p);
+  count = a.count ∙ ap (λ x. was.count + x) (sym one);
+  depth = a.depth;
+  forward = omega (arith, a.at);
+  few = omega (arith, a.at, a.count);
 }
 
-module _ (s : List ℕ) (before : List Node) (from : Reached) where
-  -- two operands, and then their node
-  pub paired : (t u v : Tree) (k : ℕ) (mid : List Node) (half next : Reached) (late : List Node) (end to : Reached) (after : List Node) → postfix v ≡ postfix t ++ (postfix u ++ (inner k (size v) ∷ [])) → size v ≡ size t + size u + 1 → Made t s before from mid half → next.count ≡ half.count → half.at ≤ next.at → Made u s mid next late end → (to.at ≡ end.at) × (to.count ≡ end.count + 1) → after ≡ set late end.count (inner k (end.count - from.count + 1)) → Made v s before from after to
-  paired t u v k mid half next late end to after p z a c l b e w = record {
-    count = omega (arith, a.count, b.count);
-    nodes =
-        w ∙ ap (λ n. set late end.count (inner k n)) (omega (arith, a.count, b.count))
-        ∙ sym (ap (laid before from.count) p
-        ∙ laid_then before from.count (postfix t) _ mid next.count a.nodes (omega (arith, length_postfix t, a.count))
-        ∙ laid_then mid next.count (postfix u) (inner k (size v) ∷ []) late end.count b.nodes (omega (arith, length_postfix u, b.count)));
-    forward = omega (arith, a.forward, b.forward);
-    within = omega (arith, b.within);
-    few = omega (arith, a.few, b.few);
-  }
+-- two operands, and then their node
+pub paired : (t u v : Tree) (k : ℕ) (was half mid late now : Reader) → postfix v ≡ postfix t ++ (postfix u ++ (inner k (size v) ∷ [])) → size v ≡ size t + size u + 1 → Made t was half → (j : ℕ) → Took j half mid → Made u mid late → Added 0 (inner k (late.count - was.count + 1)) late now → Made v was now
+paired t u v k was half mid late now p z a j c b e = record {
+  text = e.text ∙ b.text ∙ c.text ∙ a.text;
+  list = e.list ∙ b.list ∙ c.list ∙ a.list;
+  nodes =
+      e.nodes ∙ ap (λ n. set late.nodes.now late.count (inner k n)) (omega (arith, a.count, b.count, c.count))
+      ∙ sym (ap (laid was.nodes.now was.count) p
+      ∙ laid_then was.nodes.now was.count (postfix t) _ mid.nodes.now mid.count (c.nodes ∙ a.nodes) (omega (arith, length_postfix t, a.count, c.count))
+      ∙ laid_then mid.nodes.now mid.count (postfix u) (inner k (size v) ∷ []) late.nodes.now late.count b.nodes (omega (arith, length_postfix u, b.count)));
+  count = omega (arith, a.count, b.count, c.count, e.count);
+  depth = e.depth ∙ b.depth ∙ c.depth ∙ a.depth;
+  forward = omega (arith, a.forward, b.forward, c.at, e.at);
+  few = omega (arith, a.few, b.few, c.at, c.count, e.at, e.count);
+}
 
-  -- an operand, and then its node
-  pub starred_made : (t v : Tree) (k : ℕ) (mid : List Node) (half end to : Reached) (after : List Node) → postfix v ≡ postfix t ++ (inner k (size v) ∷ []) → size v ≡ size t + 1 → Made t s before from mid half → (end.at ≡ half.at + 1) × (end.count ≡ half.count) → end.at ≤ length s → (to.at ≡ end.at) × (to.count ≡ end.count + 1) → after ≡ set mid end.count (inner k (end.count - from.count + 1)) → Made v s before from after to
-  starred_made t v k mid half end to after p z a c l e w = record {
-    count = omega (arith, a.count);
-    nodes =
-        w ∙ ap (λ n. set mid end.count (inner k n)) (omega (arith, a.count))
-        ∙ sym (ap (laid before from.count) p ∙ laid_then before from.count (postfix t) (inner k (size v) ∷ []) mid end.count a.nodes (omega (arith, length_postfix t, a.count)));
-    forward = omega (arith, a.forward);
-    within = omega arith;
-    few = omega (arith, a.few);
-  }
+-- an operand, and then its node
+pub starred_made : (t v : Tree) (k : ℕ) (was half mid now : Reader) → postfix v ≡ postfix t ++ (inner k (size v) ∷ []) → size v ≡ size t + 1 → Made t was half → Took 1 half mid → Added 0 (inner k (mid.count - was.count + 1)) mid now → Made v was now
+starred_made t v k was half mid now p z a c e = record {
+  text = e.text ∙ c.text ∙ a.text;
+  list = e.list ∙ c.list ∙ a.list;
+  nodes =
+      e.nodes ∙ ap (λ n. set mid.nodes.now mid.count (inner k n)) (omega (arith, a.count, c.count))
+      ∙ sym (ap (laid was.nodes.now was.count) p ∙ laid_then was.nodes.now was.count (postfix t) (inner k (size v) ∷ []) mid.nodes.now mid.count (c.nodes ∙ a.nodes) (omega (arith, length_postfix t, a.count, c.count)));
+  count = omega (arith, a.count, c.count, e.count);
+  depth = e.depth ∙ c.depth ∙ a.depth;
+  forward = omega (arith, a.forward, c.at, e.at);
+  few = omega (arith, a.few, c.at, c.count, e.at, e.count);
+}

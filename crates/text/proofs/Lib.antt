@@ -5,9 +5,10 @@ pub mod Run
 pub mod Complete
 pub mod Verdicts
 pub mod Outcomes
+pub mod Taking
 pub mod Laying
-pub mod Exits
 pub mod Atoms
+pub mod Ranges
 pub mod Loops
 pub mod Groups
 pub mod Unique

@@ -1,5 +1,5 @@
 -- What reading the whole text answers, and what it leaves. Assumes nothing.
-use Rattle.std.proofs.Common.{◌≡◌, ℕ, ◌<◌, ◌≤◌, List, [], ◌++◌, length, take, drop, None, Ok, Err, sym, refl, ap, ◌∙◌, subst, arith, le-leb}
+use Rattle.std.proofs.Common.{◌≡◌, ℕ, ◌<◌, ◌≤◌, List, [], ◌++◌, length, take, drop, None, Ok, Err, IfOk, Result, sym, refl, ap, ◌∙◌, subst, arith, le-leb}
 use Rattle.std.proofs.lemmas.List.{take_at}
 use Rattle.table.specs.declared.node.Node.{Node}
 use Rattle.table.specs.Kinds.{byte_admitted}
@@ -12,8 +12,9 @@ use Rattle.text.specs.Grammar.{Atom, unit, group, any, range, quoted, plain, Pie
 use Rattle.text.specs.Reads as reads
 use Rattle.text.specs.Reads.{Means, Fits, Answers}
 use Rattle.text.specs.Scan.{state, start, done, joined, Verdict, good, off, deep}
-use Rattle.text.specs.Steps.{outcome, stopped, fault_of, laid, WholeRead, PatternRead}
-use Rattle.text.specs.declared.reader.Reached.{Reached}
+use Rattle.text.specs.Steps.{outcome, stopped, fault_of, laid, WholeRead}
+use Rattle.text.specs.Progress.{PatternRead}
+use Rattle.text.specs.declared.reader.Reader.{Reader}
 use Rattle.text.specs.declared.reader.Stop.{Stop}
 use Rattle.text.specs.declared.reader.Stop.TheVariants.{Off, Deep}
 use Rattle.text.proofs.Laying.{laid_all}
@@ -33,16 +34,19 @@ stop_answers s room e f le h same = subst (λ x. Answers s room (Err x)) (sym sa
     at (Off p) h = let t = told s (off p) h in (le, t.0, t.1, t.2)
     at (Deep p) h = let t = told s (deep p) h in (le, t.0, t.1, t.2)
 
-module _ (s : List ℕ) (before after : List Node) (to : Reached) (r : PatternRead s 0 before (record { at = 0; count = 0 }) after to) where
-  pub cut_short : to.at < length s → outcome start s 0 ≡ off to.at
-  cut_short lt = r.goes [] refl ∙ stops s (state [] r.alts (done r.branch)) to.at 41 (r.ends lt) refl
+module _ (was now : Reader) (first : was.at ≡ 0) (none : was.count ≡ 0) (open_none : was.depth ≡ 0) (r : PatternRead was now) where
+  goes_all : outcome start was.text.now 0 ≡ outcome (state [] r.alts (done r.branch)) was.text.now now.at
+  goes_all = ap (outcome start was.text.now) (sym first) ∙ r.goes [] (sym open_none)
 
-  pub whole_read : length s ≤ to.at → WholeRead s before after to.count
-  whole_read le = (
+  pub cut_short : now.at < length was.text.now → outcome start was.text.now 0 ≡ off now.at
+  cut_short lt = goes_all ∙ stops was.text.now (state [] r.alts (done r.branch)) now.at 41 (r.ends lt) refl
+
+  pub whole_read : length was.text.now ≤ now.at → (after : List Node) → after ≡ now.nodes.now → WholeRead was.text.now was.nodes.now after now.count
+  whole_read le after left = (
     joined r.alts r.branch,
-    r.goes [] refl ∙ at_end s (state [] r.alts (done r.branch)) to.at le,
+    goes_all ∙ at_end was.text.now (state [] r.alts (done r.branch)) now.at le,
     omega (arith, r.made.count),
-    r.made.nodes,
+    left ∙ r.made.nodes ∙ ap (λ n. laid was.nodes.now n (postfix (tree (joined r.alts r.branch)))) none,
   )
 
 module _ (s : List ℕ) (before after : List Node) (n : ℕ) (short : length s ≤ 4096) (w : WholeRead s before after n) where
@@ -78,9 +82,10 @@ mutual
   leaves (or p b) h = (leaves p h.0, branch_leaves b h.1)
 
 -- the judge never refuses what a reading accepted
-pub judged : (s : List ℕ) (before after : List Node) (n : ℕ) → Answers s (length before) (Ok n) → reads.Leaves s before (Ok n) after → verdict byte_admitted (take n after) ≡ None
-judged s before after n a l =
+pub judged : (s : List ℕ) (before after : List Node) (r : Result ℕ TextFault) → Answers s (length before) r → IfOk r (λ n. reads.Leaves s before (Ok n) after) → IfOk r (λ n. verdict byte_admitted (take n after) ≡ None)
+judged s before after (Ok n) a l =
     let q = a.0 in
     let long : length (postfix (tree q)) ≡ n = length_postfix (tree q) ∙ sym a.2 in
     let front : take n after ≡ postfix (tree q) = ap (take n) (l q a.1.1) ∙ take_at (postfix (tree q)) (drop n before) n long in
     writes_none byte_admitted (take n after) (tree q, sym front, omega (arith, ap length front, a.3), leaves q a.1.1.0)
+judged s before after (Err f) a l = tt

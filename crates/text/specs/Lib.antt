@@ -6,3 +6,4 @@ pub mod Reads
 pub mod Tables
 pub mod Scan
 pub mod Steps
+pub mod Progress

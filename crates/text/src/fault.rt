@@ -24,7 +24,15 @@ impl TextFault {
     pub fn refusal(self) -> Refusal
         ensures { result ≡ refusal_of self }
     {
-        let (number, place) = match self {
+        Refusal::from(self)
+    }
+}
+
+impl From<TextFault> for Refusal {
+    ghost from_gives = { λ f r. r ≡ refusal_of f };
+
+    fn from(fault: TextFault) -> Refusal {
+        let (number, place) = match fault {
             TextFault::TooLong => (1, MOST_BYTES),
             TextFault::OffGrammar(at) => (2, at),
             TextFault::TooDeep(at) => (3, at),

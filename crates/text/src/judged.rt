@@ -14,8 +14,6 @@ pub fn table_of(text: &[u8]) -> Result<Table, TextFault>
     let mut nodes = [BLANK; MOST_NODES];
     let count = read(text, &mut nodes)?;
     let mut table = Table::new();
-    match table.judge::<u8>(&nodes[0..count]) {
-        Ok(()) => Ok(table),
-        Err(_) => unreachable(),
-    }
+    table.judge::<u8>(&nodes[..count]).unwrap();
+    Ok(table)
 }

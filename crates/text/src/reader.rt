@@ -1,5 +1,5 @@
-// The reader: pattern, branch, piece and atom, each a function, in one pass over the text.
-ghost use Rattle.std.specs.Prelude.{◌≡◌, ℕ, ◌+◌, ◌-◌, ◌<◌, ◌≤◌, length, take, IfOk, None, Ok, MatchBool, Result as Answer, MatchResult, slice_set};
+// The reader: pattern, branch, piece and atom, each a method, in one pass over the text.
+ghost use Rattle.std.specs.Prelude.{◌≡◌, ℕ, ◌+◌, ◌-◌, ◌*◌, ◌<◌, ◌≤◌, ◌⊎◌, length, take, IfOk, None, Ok, MatchBool, Result as Answer, MatchResult};
 ghost use Rattle.table.specs.Kinds.{byte_admitted};
 ghost use Rattle.table.specs.NodeKinds.{number_of};
 ghost use Rattle.table.specs.Rules.{verdict};
@@ -8,7 +8,7 @@ ghost use Rattle.text.specs.Classes.{class_of};
 ghost use Rattle.text.specs.Reads.{Answers, Leaves, Means};
 ghost use Rattle.text.specs.Scan.{start};
 ghost use Rattle.text.specs.Grammar.{Pattern};
-ghost use Rattle.text.specs.Steps.{AtomRead, PieceRead, BranchRead, PatternRead, AtomStops, BranchStops, PatternStops, Ready, There, WholeRead, fault_of, outcome, stopped};
+ghost use Rattle.text.specs.Steps.{There, WholeRead, fault_of, outcome, stopped};
 
 use crate::fault::TextFault;
 use table::{BLANK, MOST_NODES, Node, NodeKind};
@@ -33,27 +33,22 @@ enum Class {
     Plain,
 }
 
-fn class_of(b: u8) -> Class
-    ensures { result ≡ class_of b }
-{
-    match b {
-        b'|' => Class::Bar,
-        b'*' => Class::Star,
-        b'(' => Class::Open,
-        b')' => Class::Shut,
-        b'.' => Class::Dot,
-        b'[' => Class::Range,
-        b']' => Class::Right,
-        b'\\' => Class::Escape,
-        _ => Class::Plain,
-    }
-}
+impl From<u8> for Class {
+    ghost from_gives = { λ b k. k ≡ class_of b };
 
-// How far the reader has come: the bytes taken, and the nodes made of them.
-#[derive(Clone, Copy)]
-struct Reached {
-    at: usize,
-    count: usize,
+    fn from(b: u8) -> Class {
+        match b {
+            b'|' => Class::Bar,
+            b'*' => Class::Star,
+            b'(' => Class::Open,
+            b')' => Class::Shut,
+            b'.' => Class::Dot,
+            b'[' => Class::Range,
+            b']' => Class::Right,
+            b'\\' => Class::Escape,
+            _ => Class::Plain,
+        }
+    }
 }
 
 // The place where a text leaves the grammar, or where its brackets get too deep.
@@ -63,12 +58,14 @@ enum Stop {
     Deep(usize),
 }
 
-fn fault_of(stop: Stop) -> TextFault
-    ensures { result ≡ fault_of stop }
-{
-    match stop {
-        Stop::Off(at) => TextFault::OffGrammar(at),
-        Stop::Deep(at) => TextFault::TooDeep(at),
+impl From<Stop> for TextFault {
+    ghost from_gives = { λ e f. f ≡ fault_of e };
+
+    fn from(stop: Stop) -> TextFault {
+        match stop {
+            Stop::Off(at) => TextFault::OffGrammar(at),
+            Stop::Deep(at) => TextFault::TooDeep(at),
+        }
     }
 }
 
@@ -84,13 +81,11 @@ pub fn read(text: &[u8], nodes: &mut [Node]) -> Result<usize, TextFault>
     ensures judged { IfOk result (λ n. verdict byte_admitted (take n nodes.new) ≡ None) }
     ensures bound { IfOk result (λ n. (n ≤ length nodes.old) × (n ≤ 512)) }
 {
-    match read_nodes(text, nodes) {
-        Ok(count) => Ok(count),
-        Err(fault) => {
-            nodes.fill(BLANK);
-            Err(fault)
-        }
+    let answer = read_nodes(text, nodes);
+    if answer.is_err() {
+        nodes.fill(BLANK);
     }
+    answer
 }
 
 // As `read`, but a refusal leaves anything in the lent nodes.
@@ -101,10 +96,7 @@ fn read_nodes(text: &[u8], nodes: &mut [Node]) -> Result<usize, TextFault>
     if text.len() > MOST_BYTES {
         return Err(TextFault::TooLong);
     }
-    let count = match whole(text, nodes) {
-        Ok(count) => count,
-        Err(stop) => return Err(fault_of(stop)),
-    };
+    let count = whole(text, nodes)?;
     if count > MOST_NODES {
         return Err(TextFault::NodeCount(count));
     }
@@ -119,193 +111,231 @@ fn whole(text: &[u8], nodes: &mut [Node]) -> Result<usize, Stop>
     requires { length text.now ≤ 4096 }
     ensures { MatchResult result (λ n. WholeRead text.now nodes.old nodes.new n) (λ e. outcome start text.now 0 ≡ stopped e) }
 {
-    let end = pattern(text, 0, nodes, Reached { at: 0, count: 0 })?;
-    if end.at < text.len() {
-        return Err(Stop::Off(end.at));
-    }
-    Ok(end.count)
-}
-
-#[cycle(grammar)]
-fn pattern(text: &[u8], depth: usize, nodes: &mut [Node], from: Reached) -> Result<Reached, Stop>
-    requires ready { Ready text.now depth from }
-    ensures { MatchResult result (λ to. PatternRead text.now depth nodes.old from nodes.new to) (λ e. PatternStops text.now depth from e) }
-{
-    let mut to = branch(text, depth, nodes, from)?;
-    while stands(text, to.at, b'|') {
-        let next = Reached {
-            at: to.at + 1,
-            count: to.count,
-        };
-        let end = branch(text, depth, nodes, next)?;
-        to = joined(NodeKind::Either, nodes, from, end);
-    }
-    Ok(to)
-}
-
-#[cycle(grammar)]
-fn branch(text: &[u8], depth: usize, nodes: &mut [Node], from: Reached) -> Result<Reached, Stop>
-    requires ready { Ready text.now depth from }
-    ensures { MatchResult result (λ to. BranchRead text.now depth nodes.old from nodes.new to) (λ e. BranchStops text.now depth from e) }
-{
-    let mut to = piece(text, depth, nodes, from)?;
-    while to.at < text.len() && !stands(text, to.at, b'|') && !stands(text, to.at, b')') {
-        let end = piece(text, depth, nodes, to)?;
-        to = joined(NodeKind::Then, nodes, from, end);
-    }
-    Ok(to)
-}
-
-#[cycle(grammar)]
-fn piece(text: &[u8], depth: usize, nodes: &mut [Node], from: Reached) -> Result<Reached, Stop>
-    requires ready { Ready text.now depth from }
-    ensures { MatchResult result (λ to. PieceRead text.now depth nodes.old from nodes.new to) (λ e. AtomStops text.now depth from e) }
-{
-    let mut to = atom(text, depth, nodes, from)?;
-    while stands(text, to.at, b'*') {
-        let end = Reached {
-            at: to.at + 1,
-            count: to.count,
-        };
-        to = joined(NodeKind::Repeat, nodes, from, end);
-    }
-    Ok(to)
-}
-
-#[cycle(grammar)]
-fn atom(text: &[u8], depth: usize, nodes: &mut [Node], from: Reached) -> Result<Reached, Stop>
-    requires ready { Ready text.now depth from }
-    ensures { MatchResult result (λ to. AtomRead text.now depth nodes.old from nodes.new to) (λ e. AtomStops text.now depth from e) }
-{
-    let at = from.at;
-    let b = byte(text, at)?;
-    match class_of(b) {
-        Class::Open => group(text, depth, nodes, from),
-        Class::Dot => Ok(added(leaf(0, 255), nodes, from, at + 1)),
-        Class::Range => range(text, nodes, from),
-        Class::Escape => escaped(text, nodes, from),
-        Class::Plain => Ok(added(leaf(b, b), nodes, from, at + 1)),
-        Class::Bar | Class::Star | Class::Shut | Class::Right => Err(Stop::Off(at)),
-    }
-}
-
-// An atom in brackets, from its `(` on.
-#[cycle(grammar)]
-fn group(text: &[u8], depth: usize, nodes: &mut [Node], from: Reached) -> Result<Reached, Stop>
-    requires ready { Ready text.now depth from }
-    requires opens { There text.now from.at 40 }
-    ensures { MatchResult result (λ to. AtomRead text.now depth nodes.old from nodes.new to) (λ e. AtomStops text.now depth from e) }
-{
-    if depth >= MOST_DEPTH {
-        return Err(Stop::Deep(from.at));
-    }
-    let inside = from.at + 1;
-    if stands(text, inside, b')') {
-        return Ok(added(inner(NodeKind::Empty, 1), nodes, from, inside + 1));
-    }
-    let next = Reached {
-        at: inside,
-        count: from.count,
+    let mut reader = Reader {
+        text,
+        nodes,
+        at: 0,
+        count: 0,
+        depth: 0,
     };
-    let end = pattern(text, depth + 1, nodes, next)?;
-    if end.at >= text.len() {
-        return Err(Stop::Off(end.at));
+    reader.pattern()?;
+    if reader.at < text.len() {
+        return Err(Stop::Off(reader.at));
     }
-    Ok(Reached {
-        at: end.at + 1,
-        count: end.count,
-    })
+    Ok(reader.count)
 }
 
-// `\` and the byte meant.
-fn escaped(text: &[u8], nodes: &mut [Node], from: Reached) -> Result<Reached, Stop>
-    requires ready { Ready text.now 0 from }
-    requires opens { There text.now from.at 92 }
-    ensures { (d : ℕ) → d ≤ 32 → MatchResult result (λ to. AtomRead text.now d nodes.old from nodes.new to) (λ e. AtomStops text.now d from e) }
-{
-    let at = from.at + 1;
-    let b = byte(text, at)?;
-    Ok(added(leaf(b, b), nodes, from, at + 1))
+// A text, and how far it has been read: the bytes taken, the nodes made of them, which stand at the front of the lent
+// list as far as it has room, and the brackets open.
+//
+// The count stands beside the list: the list is lent, since this crate takes nothing from the heap, and the nodes that
+// it has no room for are counted too.
+#[derive(Drop)]
+struct Reader<'t, 'n> {
+    text: &'t [u8],
+    nodes: &'n mut [Node],
+    at: usize,
+    count: usize,
+    depth: usize,
+    ghost short: { length text.now ≤ 4096 },
+    ghost within: { at ≤ length text.now },
+    ghost few: { count ≤ 2 * at },
+    ghost shallow: { depth ≤ 32 },
 }
 
-// `[l-h]`, from its `[` on.
-fn range(text: &[u8], nodes: &mut [Node], from: Reached) -> Result<Reached, Stop>
-    requires ready { Ready text.now 0 from }
-    requires opens { There text.now from.at 91 }
-    ensures { (d : ℕ) → d ≤ 32 → MatchResult result (λ to. AtomRead text.now d nodes.old from nodes.new to) (λ e. AtomStops text.now d from e) }
-{
-    let at = from.at;
-    let low = byte(text, at + 1)?;
-    expect(text, at + 2, b'-')?;
-    let high = byte(text, at + 3)?;
-    if high < low {
-        return Err(Stop::Off(at + 3));
+impl Reader<'_, '_> {
+    ghost use Rattle.text.specs.Progress.{AtEnd, BranchEnds, BranchGoesOn, Comes, Took, Added, AtomRead, PieceRead, BranchRead, PatternRead, AtomStops, BranchStops, PatternStops};
+
+    #[cycle(grammar)]
+    fn pattern(&mut self) -> Result<(), Stop>
+        ensures { MatchResult result (λ _. PatternRead self.old self.new) (PatternStops self.old) }
+    {
+        let from = self.count;
+        self.branch()?;
+        while self.eat(b'|') {
+            self.branch()?;
+            self.join(NodeKind::Either, from);
+        }
+        Ok(())
     }
-    expect(text, at + 4, b']')?;
-    Ok(added(leaf(low, high), nodes, from, at + 5))
-}
 
-// The byte at a place, which every text has that goes on there.
-fn byte(text: &[u8], at: usize) -> Result<u8, Stop>
-    ensures { MatchResult result (λ b. There text.now at b) (λ e. (e ≡ Stop.Off at) × (length text.now ≤ at)) }
-{
-    if at >= text.len() {
-        return Err(Stop::Off(at));
+    #[cycle(grammar)]
+    fn branch(&mut self) -> Result<(), Stop>
+        ensures { MatchResult result (λ _. BranchRead self.old self.new) (BranchStops self.old) }
+    {
+        let from = self.count;
+        self.piece()?;
+        while !self.ends_branch() {
+            self.piece()?;
+            self.join(NodeKind::Then, from);
+        }
+        Ok(())
     }
-    Ok(text[at])
-}
 
-// A byte that has to stand at a place.
-fn expect(text: &[u8], at: usize, want: u8) -> Result<(), Stop>
-    ensures { MatchResult result (λ _. There text.now at want) (λ e. (e ≡ Stop.Off at) × (There text.now at want → ⊥)) }
-{
-    if !stands(text, at, want) {
-        return Err(Stop::Off(at));
+    #[cycle(grammar)]
+    fn piece(&mut self) -> Result<(), Stop>
+        ensures { MatchResult result (λ _. PieceRead self.old self.new) (AtomStops self.old) }
+    {
+        let from = self.count;
+        self.atom()?;
+        while self.eat(b'*') {
+            self.join(NodeKind::Repeat, from);
+        }
+        Ok(())
     }
-    Ok(())
-}
 
-// Whether a byte stands at a place.
-fn stands(text: &[u8], at: usize, want: u8) -> bool
-    ensures { MatchBool result (There text.now at want) (There text.now at want → ⊥) }
-{
-    at < text.len() && text[at] == want
-}
-
-// One node more, at the end of what has been read.
-fn added(node: Node, nodes: &mut [Node], from: Reached, at: usize) -> Reached
-    requires { from.count ≤ 8192 }
-    ensures value { (result.at ≡ at) × (result.count ≡ from.count + 1) }
-    ensures after { nodes.new ≡ slice_set nodes.old from.count node }
-{
-    put(nodes, from.count, node);
-    Reached {
-        at,
-        count: from.count + 1,
+    #[cycle(grammar)]
+    fn atom(&mut self) -> Result<(), Stop>
+        ensures { MatchResult result (λ _. AtomRead self.old self.new) (AtomStops self.old) }
+    {
+        let b = self.peek()?;
+        // A match on the bytes themselves was tried: its last arm does not tell the proof which bytes are left.
+        match Class::from(b) {
+            Class::Open => self.group(),
+            Class::Range => self.range(),
+            Class::Escape => self.escaped(),
+            Class::Dot => {
+                self.take(leaf(0, 255));
+                Ok(())
+            }
+            Class::Plain => {
+                self.take(leaf(b, b));
+                Ok(())
+            }
+            Class::Bar | Class::Star | Class::Shut | Class::Right => Err(Stop::Off(self.at)),
+        }
     }
-}
 
-// The node that stands after its operands, whose nodes begin at `from`.
-fn joined(kind: NodeKind, nodes: &mut [Node], from: Reached, end: Reached) -> Reached
-    requires order { from.count ≤ end.count }
-    requires few { end.count ≤ 8192 }
-    ensures value { (result.at ≡ end.at) × (result.count ≡ end.count + 1) }
-    ensures after { nodes.new ≡ slice_set nodes.old end.count (inner (number_of kind) (end.count - from.count + 1)) }
-{
-    let size = end.count - from.count + 1;
-    put(nodes, end.count, inner(kind, size as u16));
-    Reached {
-        at: end.at,
-        count: end.count + 1,
+    // An atom in brackets, from its `(` on.
+    #[cycle(grammar)]
+    fn group(&mut self) -> Result<(), Stop>
+        requires { Comes 40 self.old }
+        ensures { MatchResult result (λ _. AtomRead self.old self.new) (AtomStops self.old) }
+    {
+        if self.depth >= MOST_DEPTH {
+            return Err(Stop::Deep(self.at));
+        }
+        self.skip();
+        if self.eat(b')') {
+            self.push(inner(NodeKind::Empty, 1));
+            return Ok(());
+        }
+        self.depth += 1;
+        self.pattern()?;
+        self.depth -= 1;
+        self.expect(b')')
     }
-}
 
-// Writes a node where the lent list has room for it.
-fn put(nodes: &mut [Node], at: usize, node: Node)
-    ensures { nodes.new ≡ slice_set nodes.old at node }
-{
-    if at < nodes.len() {
-        nodes[at] = node;
+    // `\` and the byte meant.
+    fn escaped(&mut self) -> Result<(), Stop>
+        requires { Comes 92 self.old }
+        ensures { MatchResult result (λ _. AtomRead self.old self.new) (AtomStops self.old) }
+    {
+        self.skip();
+        let b = self.peek()?;
+        self.take(leaf(b, b));
+        Ok(())
+    }
+
+    // `[l-h]`, from its `[` on.
+    fn range(&mut self) -> Result<(), Stop>
+        requires { Comes 91 self.old }
+        ensures { MatchResult result (λ _. AtomRead self.old self.new) (AtomStops self.old) }
+    {
+        self.skip();
+        let low = self.next()?;
+        self.expect(b'-')?;
+        let high = self.peek()?;
+        if high < low {
+            return Err(Stop::Off(self.at));
+        }
+        self.skip();
+        self.expect(b']')?;
+        self.push(leaf(low, high));
+        Ok(())
+    }
+
+    // The byte to come, which every text has that goes on here.
+    fn peek(&self) -> Result<u8, Stop>
+        ensures { MatchResult result (λ b. Comes b self.now) (λ e. (e ≡ Stop.Off self.now.at) × AtEnd self.now) }
+    {
+        self.text.get(self.at).copied().ok_or(Stop::Off(self.at))
+    }
+
+    // Takes the byte to come.
+    fn next(&mut self) -> Result<u8, Stop>
+        ensures { MatchResult result (λ b. Comes b self.old × Took 1 self.old self.new) (λ e. (e ≡ Stop.Off self.old.at) × AtEnd self.old) }
+    {
+        let b = self.peek()?;
+        self.skip();
+        Ok(b)
+    }
+
+    // Takes a byte that has to come.
+    fn expect(&mut self, want: u8) -> Result<(), Stop>
+        ensures { MatchResult result (λ _. Comes want self.old × Took 1 self.old self.new) (λ e. (e ≡ Stop.Off self.old.at) × (¬ Comes want self.old)) }
+    {
+        if !self.eat(want) {
+            return Err(Stop::Off(self.at));
+        }
+        Ok(())
+    }
+
+    // Takes a byte if it comes, and says whether it did.
+    fn eat(&mut self, want: u8) -> bool
+        ensures { MatchBool result (Comes want self.old × Took 1 self.old self.new) ((¬ Comes want self.old) × Took 0 self.old self.new) }
+    {
+        let comes = self.text.get(self.at) == Some(&want);
+        if comes {
+            self.skip();
+        }
+        comes
+    }
+
+    // Whether a branch ends here: at a bar, a closing bracket or the end.
+    fn ends_branch(&self) -> bool
+        ensures { MatchBool result (BranchEnds self.now.text.now self.now.at) (BranchGoesOn self.now.text.now self.now.at) }
+    {
+        matches!(self.text.get(self.at), None | Some(b'|' | b')'))
+    }
+
+    // Goes past the byte to come.
+    fn skip(&mut self)
+        requires { self.old.at < length self.old.text.now }
+        ensures { Took 1 self.old self.new }
+    {
+        self.at += 1;
+    }
+
+    // Takes the byte to come, and adds the node that it makes.
+    fn take(&mut self, node: Node)
+        requires { self.old.at < length self.old.text.now }
+        ensures { Added 1 node self.old self.new }
+    {
+        self.skip();
+        self.push(node);
+    }
+
+    // Adds the node that stands after its operands, of which the first begins at `from`.
+    fn join(&mut self, kind: NodeKind, from: usize)
+        requires order { from ≤ self.old.count }
+        requires few { self.old.count + 1 ≤ 2 * self.old.at }
+        ensures { Added 0 (inner (number_of kind) (self.old.count - from + 1)) self.old self.new }
+    {
+        let size = self.count - from + 1;
+        self.push(inner(kind, size as u16));
+    }
+
+    // One node more, written where the lent list has room for it. By `get_mut`, which was tried, the proof does not learn
+    // what is written.
+    fn push(&mut self, node: Node)
+        requires { self.old.count + 1 ≤ 2 * self.old.at }
+        ensures { Added 0 node self.old self.new }
+    {
+        if self.count < self.nodes.len() {
+            self.nodes[self.count] = node;
+        }
+        self.count += 1;
     }
 }
 
@@ -315,11 +345,8 @@ fn inner(kind: NodeKind, size: u16) -> Node
 {
     Node {
         kind: kind as u8,
-        tag: 0,
         size,
-        low: 0,
-        high: 0,
-        price: 0,
+        ..BLANK
     }
 }
 
@@ -329,10 +356,8 @@ fn leaf(low: u8, high: u8) -> Node
 {
     Node {
         kind: NodeKind::Leaf as u8,
-        tag: 0,
-        size: 1,
         low: u32::from(low),
         high: u32::from(high),
-        price: 0,
+        ..BLANK
     }
 }

@@ -1,30 +1,19 @@
-use Rattle.std.proofs.Common.{◌≡◌, length, replicate, Ok, Err, ap, ◌∙◌, arith}
-use Rattle.table.specs.Tree.{inner}
+use Rattle.std.proofs.Common.{length}
 use Rattle.text.proofs.Unique.{unambiguous, one_answer}
 use Rattle.text.proofs.Wholes.{judged}
 use Rattle.text.proofs.reader.read.Goals as goal
 
-pub returns-in-Ok : goal.returns-in-Ok
-returns-in-Ok c =
-    let t = c.in-Ok.ensures in
-    record {
-      answer = t.answer;
-      only = λ a h. one_answer c.args.text.now (length c.args.nodes.now) a (Ok c.in-Ok.count) h t.answer;
-      after = t.after;
-      unambiguous = unambiguous c.args.text.now;
-      judged = judged c.args.text.now c.args.nodes.now _ c.in-Ok.count t.answer t.after;
-      bound = (t.answer.4, t.answer.3);
-    }
+pub returns-then-is_err-clause-only : goal.returns-then-is_err-clause-only
+returns-then-is_err-clause-only c a h = one_answer c.args.text.now (length c.args.nodes.now) a _ h c.read_nodes-answer.ensures.answer
 
-pub returns-in-Err : goal.returns-in-Err
-returns-in-Err c =
-    let t = c.in-Err.ensures in
-    let long : length c.read_nodes.new.nodes ≡ length c.args.nodes.now = omega arith in
-    record {
-      answer = t.answer;
-      only = λ a h. one_answer c.args.text.now (length c.args.nodes.now) a (Err c.in-Err.fault) h t.answer;
-      after = c.fill.ensures.after (λ y h. h) ∙ ap (λ n. replicate n (inner 0 1)) long;
-      unambiguous = unambiguous c.args.text.now;
-      judged = tt;
-      bound = tt;
-    }
+pub returns-then-is_err-clause-unambiguous : goal.returns-then-is_err-clause-unambiguous
+returns-then-is_err-clause-unambiguous c = unambiguous c.args.text.now
+
+pub returns-else-is_err-clause-only : goal.returns-else-is_err-clause-only
+returns-else-is_err-clause-only c a h = one_answer c.args.text.now (length c.args.nodes.now) a _ h c.read_nodes-answer.ensures.answer
+
+pub returns-else-is_err-clause-unambiguous : goal.returns-else-is_err-clause-unambiguous
+returns-else-is_err-clause-unambiguous c = unambiguous c.args.text.now
+
+pub returns-else-is_err-clause-judged : goal.returns-else-is_err-clause-judged
+returns-else-is_err-clause-judged c = judged c.args.text.now c.args.nodes.now _ _ c.read_nodes-answer.ensures.answer c.read_nodes-answer.ensures.after

@@ -1,8 +1,12 @@
+use Rattle.std.proofs.Common.{refl, sym, rules}
 use Rattle.text.proofs.Wholes.{cut_short, whole_read}
 use Rattle.text.proofs.reader.whole.Goals as goal
 
-pub returns-then-end-text : goal.returns-then-end-text
-returns-then-end-text c = cut_short c.args.text.now _ _ _ c.in_ok-end.ensures c.if-end-text.true
+pub returns-then-reader-text : goal.returns-then-reader-text
+returns-then-reader-text c = cut_short _ _ refl refl refl c.in_ok-pattern.ensures c.if-reader-text.true
 
 pub returns : goal.returns
-returns c = whole_read c.args.text.now _ _ _ c.in_ok-end.ensures c.if-end-text.false
+returns c =
+    let read = c.in_ok-pattern.ensures in
+    let list = sym read.made.list in
+    whole_read _ _ refl refl refl read c.if-reader-text.false _ (search rules)
