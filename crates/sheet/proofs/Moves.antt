@@ -1,19 +1,34 @@
 -- One lane put into one set and out of all others. Assumes nothing.
-use Rattle.std.proofs.Common.{◌≡◌, ℕ, ◌+◌, ◌≤◌, Bool, true, false, cond, eqb, refl, ap, ◌∙◌, arith}
+use Rattle.std.proofs.Common.{◌≡◌, ℕ, ◌+◌, ◌≤◌, Bool, true, false, cond, eqb, refl, ap, ap₂, ◌∙◌, arith}
 use Rattle.sheet.specs.declared.lanes.LaneSet.{LaneSet}
 use Rattle.sheet.specs.declared.sheet.Sheet.{Sheet}
 use Rattle.sheet.specs.declared.standing.Standing.{Standing}
 use Rattle.sheet.specs.declared.standing.Standing.TheVariants.{Unfilled, Clean, Owed, Taken, Struck}
 use Rattle.sheet.specs.Lanes.{has, Put}
-use Rattle.sheet.specs.Standings.{same}
+use Rattle.sheet.specs.Standings.{rank, same}
+use Rattle.sheet.specs.contracts.standing.Standing.{the_type}
+use denote.Enum.Bare.{sameb}
+use denote.Enum.Declared.{tag_of}
 use Rattle.sheet.specs.Sheets.{set_of, standing}
+
+-- the test that is derived for standings is the one by rank
+tag_rank : (st : Standing) → tag_of the_type st ≡ rank st
+tag_rank Unfilled = refl
+tag_rank Clean = refl
+tag_rank Owed = refl
+tag_rank Taken = refl
+tag_rank Struck = refl
+
+eq_same : (a b : Standing) → sameb the_type a b ≡ same a b
+eq_same a b = ap₂ eqb (tag_rank a) (tag_rank b)
 
 -- how many of the sets have a lane
 abbrev pub sets : Bool → Bool → Bool → Bool → ℕ
 sets c o t s = cond c 1 0 + (cond o 1 0 + (cond t 1 0 + (cond s 1 0 + 0)))
 
-pub put_as : {a b : LaneSet} {lane : ℕ} {m n : Bool} → Put lane m a b → m ≡ n → Put lane n a b
-put_as {a} {lane} h e = record { at = λ k. h.at k ∙ ap (λ x. cond (eqb k lane) x (has a k)) e }
+-- a lane that is put into a set where a standing is the set's
+pub put_as : {a b : LaneSet} {lane : ℕ} {m : Bool} (to own : Standing) → Put lane m a b → m ≡ sameb the_type to own → Put lane (same to own) a b
+put_as {a} {lane} to own h e = record { at = λ k. h.at k ∙ ap (λ x. cond (eqb k lane) x (has a k)) (e ∙ eq_same to own) }
 
 module _ (b : Sheet) (lane : ℕ) (to : Standing) {c o t s : LaneSet}
     (ec : Put lane (same to Clean) b.clean c)

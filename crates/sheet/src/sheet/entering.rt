@@ -56,7 +56,7 @@ impl Sheet {
         ensures answer { answered result ≡ filled_refusal (filled self.now lane) lane }
         ensures beside { IfErr result (λ f. Beside lane f) }
     {
-        if self.standing(lane).is(Standing::Unfilled) {
+        if self.standing(lane) == Standing::Unfilled {
             return Ok(());
         }
         Err(SheetFault::Filled(lane))
@@ -77,10 +77,7 @@ fn judge_list(table: &Table, weights: &[Pair<Count, Price>]) -> Result<(), Sessi
 fn judge_session(lane: u8, table: &Table, weights: &[Pair<Count, Price>]) -> Result<(), AtLane>
     ensures { JudgedAtLane lane (session_judged table.now (length weights.now)) result }
 {
-    match judge_list(table, weights) {
-        Ok(()) => Ok(()),
-        Err(fault) => Err(AtLane { lane, fault }),
-    }
+    judge_list(table, weights).map_err(|fault| AtLane { lane, fault })
 }
 
 fn judge_lane(lane: u8) -> Result<(), SheetFault>

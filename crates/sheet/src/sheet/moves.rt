@@ -45,9 +45,9 @@ impl Sheet {
         requires { lane < 16 }
         ensures { Moved lane to self.old self.new }
     {
-        self.clean = self.clean.put(lane, to.is(Standing::Clean));
-        self.owed = self.owed.put(lane, to.is(Standing::Owed));
-        self.taken = self.taken.put(lane, to.is(Standing::Taken));
-        self.struck = self.struck.put(lane, to.is(Standing::Struck));
+        self.clean = self.clean.put(lane, to == Standing::Clean);
+        self.owed = self.owed.put(lane, to == Standing::Owed);
+        self.taken = self.taken.put(lane, to == Standing::Taken);
+        self.struck = self.struck.put(lane, to == Standing::Struck);
     }
 }

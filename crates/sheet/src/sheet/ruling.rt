@@ -43,6 +43,6 @@ impl Sheet {
         ensures value { result ≡ matches self.now slip.now }
         ensures few { result ≡ true → slip.now.lane < 16 }
     {
-        slip.sheet() == self.number && self.standing(slip.lane()).is(Standing::Owed)
+        slip.sheet() == self.number && self.standing(slip.lane()) == Standing::Owed
     }
 }
