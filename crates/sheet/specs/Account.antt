@@ -1,5 +1,7 @@
 -- What a sheet owes to its history: lines, readings, slips and refusals. Assumes nothing.
 use Rattle.std.specs.Prelude.{◌≡◌, ℕ, ◌+◌, Bool, true, false, cond, ◌&&◌, ◌⊎◌, List, [], ◌∷◌, is_ok, Some, None, Ok, Err, Option, Result, ◌==◌, ◌≢◌}
+use Rattle.std.specs.Option.{option_map}
+use Rattle.std.specs.Result.{result_err}
 use Rattle.readings.specs.Readings.{Reading, Reads}
 use Rattle.table.specs.Content.{tree}
 use Rattle.table.specs.declared.fault.Refusal.{Refusal}
@@ -68,8 +70,7 @@ Exactly A B = (A → B) × (B → A)
 
 -- what the answer to a slip says of refusals
 abbrev pub ruled : Result (Unit {0}) Returned → Option Refusal
-ruled (Ok u) = None
-ruled (Err r) = Some (refusal_of r.fault)
+ruled a = option_map (λ r. refusal_of r.fault) (result_err a)
 
 -- a slip is refused exactly where its sheet number is another or its lane is not owed
 abbrev pub slip_refusal : Bool → ℕ → Option Refusal

@@ -1,14 +1,13 @@
 -- When entering a line is refused, and by which number. Assumes nothing.
-use Rattle.std.specs.Prelude.{◌≡◌, ℕ, Bool, cond, ◌&&◌, List, length, Some, None, Ok, Err, Option, Result, ◌==◌, nat_le}
+use Rattle.std.specs.Prelude.{ℕ, Bool, cond, ◌&&◌, List, length, Some, None, Option, Result, ◌==◌, nat_le}
+use Rattle.std.specs.Option.{option_map}
+use Rattle.std.specs.Result.{result_err}
 use Rattle.table.specs.declared.fault.Refusal.{Refusal}
 use Rattle.table.specs.declared.table.Table.{Table}
 use Rattle.table.specs.Content.{content}
 use Rattle.table.specs.Kinds.{byte_number}
 use Rattle.table.specs.Rules.{or_else}
-use Rattle.session.specs.declared.fault.SessionFault.{SessionFault}
-use Rattle.session.specs.Faults as session
 use Rattle.session.specs.Faults.{most_symbols, session_refusal}
-use Rattle.sheet.specs.declared.fault.AtLane.{AtLane}
 use Rattle.sheet.specs.declared.fault.SheetFault.{SheetFault}
 use Rattle.sheet.specs.Faults.{refusal_of, sheet_refusal}
 use Rattle.sheet.specs.Weighing.{needed}
@@ -42,14 +41,4 @@ entry_refusal filled lane line table room =
 
 -- what an answer says of refusals
 abbrev pub answered : {A : Type 0} → Result A SheetFault → Option Refusal
-answered (Ok x) = None
-answered (Err f) = Some (refusal_of f)
-
-abbrev pub session_answered : {A : Type 0} → Result A SessionFault → Option Refusal
-session_answered (Ok x) = None
-session_answered (Err f) = Some (session.refusal_of f)
-
--- the same, with the lane beside the fault
-abbrev pub JudgedAtLane : {A : Type 0} → ℕ → Option Refusal → Result A AtLane → Type 0
-JudgedAtLane lane o (Ok x) = o ≡ None
-JudgedAtLane lane o (Err a) = (o ≡ Some (session.refusal_of a.fault)) × (a.lane ≡ lane)
+answered a = option_map refusal_of (result_err a)
