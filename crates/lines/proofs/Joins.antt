@@ -1,9 +1,13 @@
 -- The laws of `lines`. Assumes nothing.
-use Rattle.std.proofs.Common.{◌≡◌, ℕ, ◌+◌, ◌<◌, Bool, true, false, cond, eqb, List, [], ◌∷◌, ◌++◌, length, get_or, take, drop, sym, refl, ap, ◌∙◌, subst, inl, inr, append_assoc, append-nil, arith, length-append, take-append-drop, true-eqb, false-eqb}
+use Rattle.std.proofs.Common.{◌≡◌, ℕ, suc, ◌+◌, ◌<◌, Bool, true, false, cond, eqb, List, [], ◌∷◌, ◌++◌, length, get_or, take, drop, Some, None, not, ltb, sym, refl, ap, ◌∙◌, subst, inl, inr, append_assoc, append-nil, arith, length-append, take-append-drop, true-eqb, false-eqb}
 use Rattle.lines.specs.Laws.{Unbroken, closed, ended, Lawful, Cut}
 use Rattle.lines.specs.Lines.{lines, onto}
 use Rattle.std.proofs.lemmas.List.{drop_more}
-use Rattle.std.specs.List.{flat_map, AllByRecursion}
+use Rattle.std.proofs.lemmas.Bool.{ltb-false}
+use Rattle.std.proofs.lemmas.List.{take_all}
+use Rattle.std.proofs.lemmas.List.Quantifiers.{position-Some}
+use Rattle.std.proofs.lemmas.Option.{none-some, same_Some}
+use Rattle.std.specs.List.{flat_map, position, position_or_len, AllByRecursion}
 
 -- a byte other than 10 belongs to the line that it stands before
 other : (b : ℕ) (bs : List ℕ) → (b ≡ 10 → ⊥) → lines (b ∷ bs) ≡ onto b (lines bs)
@@ -77,7 +81,7 @@ lawful file = record {
 }
 
 -- the byte at i is the first 10
-pub cut_at : (file line rest : List ℕ) (i : ℕ) → i < length file → get_or file i 0 ≡ 10 → Unbroken (take i file) → line ≡ take i file → rest ≡ drop (i + 1) file → Cut file line rest
+cut_at : (file line rest : List ℕ) (i : ℕ) → i < length file → get_or file i 0 ≡ 10 → Unbroken (take i file) → line ≡ take i file → rest ≡ drop (i + 1) file → Cut file line rest
 cut_at file line rest i lt here u front back =
     let parted : file ≡ line ++ 10 ∷ rest = sym (take-append-drop i file) ∙ ap (λ x. take i file ++ x) (drop_more file i 0 lt) ∙ cc in
     let free : Unbroken line = subst Unbroken (sym front) u in
@@ -89,7 +93,7 @@ cut_at file line rest i lt here u front back =
     }
 
 -- no byte is 10
-pub cut_none : (file rest : List ℕ) → 0 < length file → Unbroken file → rest ≡ [] → Cut file file rest
+cut_none : (file rest : List ℕ) → 0 < length file → Unbroken file → rest ≡ [] → Cut file file rest
 cut_none [] rest lt u none = absurd (omega arith)
 cut_none (b ∷ bs) rest lt u none = record {
   cuts = lines_last b bs u ∙ ap (λ x. (b ∷ bs) ∷ lines x) (sym none);
@@ -97,3 +101,37 @@ cut_none (b ∷ bs) rest lt u none = record {
   split = inr (sym (append-nil (b ∷ bs)) ∙ ap (λ x. (b ∷ bs) ++ x) (sym none), none);
   shorter = rw none (omega arith);
 }
+
+-- the first byte 10 ends the first line
+abbrev is_end : ℕ → Bool
+is_end b = eqb b 10
+
+-- what stands before it holds no byte 10
+unbroken_before : (file : List ℕ) → Unbroken (take (position_or_len is_end file) file)
+unbroken_before [] = tt
+unbroken_before (b ∷ bs) = by (eqb b 10) refl (unbroken_before bs)
+  where
+    by : (t : Bool) → t ≡ eqb b 10 → Unbroken (take (position_or_len is_end bs) bs) → Unbroken (take (cond (not t) (1 + position_or_len is_end bs) 0) (b ∷ bs))
+    by true e u = tt
+    by false e u = let one : suc (position_or_len is_end bs) ≡ 1 + position_or_len is_end bs = omega arith in subst (λ n. Unbroken (take n (b ∷ bs))) one (false-eqb b 10 e, u)
+
+pub cut_at_end : (file rest : List ℕ) (i : ℕ) → position is_end file ≡ Some i → rest ≡ drop (i + 1) file → Cut file (take i file) rest
+cut_at_end file rest i e r = cut_at file _ rest i here.0 (true-eqb _ 10 (sym here.1)) before refl r
+  where
+    here : (i < length file) × (eqb (get_or file i 0) 10 ≡ true)
+    here = let all = position-Some is_end file i 0 e in (all.0, all.1)
+
+    at : (t : Bool) → cond t (Some (position_or_len is_end file)) None ≡ Some i → position_or_len is_end file ≡ i
+    at true p = same_Some _ _ p
+    at false p = absurd (none-some i p)
+
+    before : Unbroken (take i file)
+    before = subst (λ n. Unbroken (take n file)) (at (ltb (position_or_len is_end file) (length file)) e) (unbroken_before file)
+
+-- a file without byte 10 is one line
+pub cut_without_end : (file : List ℕ) → position is_end file ≡ None → (length file ≡ 0 → ⊥) → Cut file file []
+cut_without_end file e some = cut_none file [] (omega (arith, some)) (by (ltb (position_or_len is_end file) (length file)) refl e) refl
+  where
+    by : (t : Bool) → t ≡ ltb (position_or_len is_end file) (length file) → cond t (Some (position_or_len is_end file)) None ≡ None → Unbroken file
+    by true p q = absurd (none-some _ (sym q))
+    by false p q = subst Unbroken (take_all (position_or_len is_end file) file (ltb-false _ _ (sym p))) (unbroken_before file)
