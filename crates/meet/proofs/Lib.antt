@@ -1,3 +1,4 @@
+pub mod Padding
 pub mod Parting
 pub mod Settling
 pub mod Rowing

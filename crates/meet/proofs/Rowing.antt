@@ -20,24 +20,7 @@ use Rattle.sheet.specs.Weighing.{line_weight, needed}
 use Rattle.meet.specs.Meet.{by_refusal, filled_with, line_row, readings_of, refusal}
 use Rattle.meet.specs.Parts.{lane_of, text_of}
 use Rattle.meet.specs.Rows.{row}
-use Rattle.meet.specs.Settled.{Settled, answer_row}
-
--- a byte table with room enough is not refused by the session
-session_accepts : (t : Table) (room : ℕ) → (content t).kind ≡ byte_number → needed t ≤ room → session_judged t room ≡ None
-session_accepts t room k n =
-    ap (λ o. or_else o (room_refusal (needed t) room)) (cond-true (eqb (content t).kind byte_number) None _ (eq-eqb (content t).kind byte_number k))
-    ∙ cond-true (leb (needed t) room) None _ (le-leb (needed t) room n)
-
-after_session : Bool → ℕ → List ℕ → Option Refusal
-after_session f lane text = or_else (lane_refusal lane) (or_else (line_refusal (length text)) (filled_refusal f lane))
-
--- so what refuses a line is told by lane, text and filled lanes
-line_refused : (line : List ℕ) (t : Table) (room : ℕ) (f : Bool) (lane : ℕ) (text : List ℕ) → (content t).kind ≡ byte_number → needed t ≤ room → lane ≡ lane_of line → text ≡ text_of line → entry_refusal f lane text t room ≡ refusal f line
-unfolding after_session
-line_refused line t room f lane text k n l x =
-    ap (λ o. or_else o (after_session f lane text)) (session_accepts t room k n)
-    ∙ ap (λ i. after_session f i text) l
-    ∙ ap (after_session f (lane_of line)) x
+use Rattle.meet.specs.Settled.{Settled, answer_row, text_refusal}
 
 -- a line that is not refused has a lane that is not filled
 not_filled : (a b : Option Refusal) (f : Bool) (r : Refusal) → or_else a (or_else b (cond f (Some r) None)) ≡ None → f ≡ false
@@ -46,23 +29,23 @@ not_filled None (Some b) f r e = absurd (let z : ◌≡◌ {A = ℕ} 0 1 = cc in
 not_filled None None true r e = absurd (let z : ◌≡◌ {A = ℕ} 0 1 = cc in omega arith)
 not_filled None None false r e = refl
 
-module _ (line : List ℕ) (t : Table) (room : ℕ) (lane : ℕ) (text : List ℕ) (b s : Sheet) (kind : (content t).kind ≡ byte_number) (fits : needed t ≤ room) (l : lane ≡ lane_of line) (x : text ≡ text_of line) where
-  same_refusal : entry_refusal (filled b lane) lane text t room ≡ refusal (filled b (lane_of line)) line
-  same_refusal = line_refused line t room (filled b lane) lane text kind fits l x ∙ ap (λ i. refusal (filled b i) line) l
+module _ (line : List ℕ) (t : Table) (lane : ℕ) (text : List ℕ) (b s : Sheet) (l : lane ≡ lane_of line) (x : text ≡ text_of line) where
+  same_refusal : text_refusal (filled b lane) lane text ≡ refusal (filled b (lane_of line)) line
+  same_refusal = ap (λ i. text_refusal (filled b i) i text) l ∙ ap (text_refusal (filled b (lane_of line)) (lane_of line)) x
 
   same_count : (line_weight t text).first.value ≡ readings_of (tree t) line
   same_count = ap (λ w. (line_weight t w).first.value) x
 
   -- the row of the answer is the line's row
-  row_is : (a : Result ℕ SheetFault) (number : ℕ) → Settled lane text t room a b s → answer_row number lane a ≡ line_row (tree t) number (filled b (lane_of line)) line
+  row_is : (a : Result ℕ SheetFault) (number : ℕ) → Settled lane text t a b s → answer_row number lane a ≡ line_row (tree t) number (filled b (lane_of line)) line
   row_is (Ok n) number d = ap (λ i. row i n) l ∙ ap (row (lane_of line)) (d.1 ∙ same_count) ∙ sym (ap (by_refusal number (lane_of line) (readings_of (tree t) line)) (sym same_refusal ∙ d.0))
   row_is (Err f) number d = sym (ap (by_refusal number (lane_of line) (readings_of (tree t) line)) (sym same_refusal ∙ d.0))
 
-  pub answer_written : (a : Result ℕ SheetFault) (number : ℕ) (r : Result (String Global) AllocError) → Settled lane text t room a b s → IfOk r (λ y. string_bytes y ≡ answer_row number lane a) → IfOk r (λ y. string_bytes y ≡ line_row (tree t) number (filled b (lane_of line)) line)
+  pub answer_written : (a : Result ℕ SheetFault) (number : ℕ) (r : Result (String Global) AllocError) → Settled lane text t a b s → IfOk r (λ y. string_bytes y ≡ answer_row number lane a) → IfOk r (λ y. string_bytes y ≡ line_row (tree t) number (filled b (lane_of line)) line)
   answer_written a number r d m = IfOk-weaker r _ _ (λ y e. e ∙ row_is a number d) m
 
   -- a line that was entered
-  lanes_accepted : (n : ℕ) → Settled lane text t room (Ok n) b s → (k : ℕ) → filled s k ≡ filled_with (tree t) line (filled b) k
+  lanes_accepted : (n : ℕ) → Settled lane text t (Ok n) b s → (k : ℕ) → filled s k ≡ filled_with (tree t) line (filled b) k
   lanes_accepted n d k =
       d.2 k
       ∙ ap (λ i. cond (eqb k i) (leb 1 n) (filled b k)) l
@@ -85,7 +68,7 @@ module _ (line : List ℕ) (t : Table) (room : ℕ) (lane : ℕ) (text : List �
       by false e = refl
 
   -- a line that was refused
-  lanes_refused : (f : SheetFault) → Settled lane text t room (Err f) b s → (k : ℕ) → filled s k ≡ filled_with (tree t) line (filled b) k
+  lanes_refused : (f : SheetFault) → Settled lane text t (Err f) b s → (k : ℕ) → filled s k ≡ filled_with (tree t) line (filled b) k
   lanes_refused f d k =
       d.1 k
       ∙ by (eqb k (lane_of line))
@@ -96,10 +79,6 @@ module _ (line : List ℕ) (t : Table) (room : ℕ) (lane : ℕ) (text : List �
       by false = refl
 
   -- the lanes that are filled after the answer
-  pub answer_lanes : (a : Result ℕ SheetFault) → Settled lane text t room a b s → (k : ℕ) → filled s k ≡ filled_with (tree t) line (filled b) k
+  pub answer_lanes : (a : Result ℕ SheetFault) → Settled lane text t a b s → (k : ℕ) → filled s k ≡ filled_with (tree t) line (filled b) k
   answer_lanes (Ok n) d = lanes_accepted n d
   answer_lanes (Err f) d = lanes_refused f d
-
-  pub answer_settled : (a : Result ℕ SheetFault) → Settled lane text t room a b s → NoneOf (is_owed s)
-  answer_settled (Ok n) d = d.3
-  answer_settled (Err f) d = d.2
