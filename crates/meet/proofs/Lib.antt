@@ -1,5 +1,4 @@
 pub mod Padding
-pub mod Parting
 pub mod Settling
 pub mod Rowing
 pub mod Running

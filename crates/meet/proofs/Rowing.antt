@@ -24,9 +24,9 @@ use Rattle.meet.specs.Settled.{Settled, answer_row, text_refusal}
 
 -- a line that is not refused has a lane that is not filled
 not_filled : (a b : Option Refusal) (f : Bool) (r : Refusal) → or_else a (or_else b (cond f (Some r) None)) ≡ None → f ≡ false
-not_filled (Some a) b f r e = absurd (let z : ◌≡◌ {A = ℕ} 0 1 = cc in omega arith)
-not_filled None (Some b) f r e = absurd (let z : ◌≡◌ {A = ℕ} 0 1 = cc in omega arith)
-not_filled None None true r e = absurd (let z : ◌≡◌ {A = ℕ} 0 1 = cc in omega arith)
+not_filled (Some a) b f r e = cc
+not_filled None (Some b) f r e = cc
+not_filled None None true r e = cc
 not_filled None None false r e = refl
 
 module _ (line : List ℕ) (t : Table) (lane : ℕ) (text : List ℕ) (b s : Sheet) (l : lane ≡ lane_of line) (x : text ≡ text_of line) where
@@ -35,14 +35,6 @@ module _ (line : List ℕ) (t : Table) (lane : ℕ) (text : List ℕ) (b s : She
 
   same_count : (line_weight t text).first.value ≡ readings_of (tree t) line
   same_count = ap (λ w. (line_weight t w).first.value) x
-
-  -- the row of the answer is the line's row
-  row_is : (a : Result ℕ SheetFault) (number : ℕ) → Settled lane text t a b s → answer_row number lane a ≡ line_row (tree t) number (filled b (lane_of line)) line
-  row_is (Ok n) number d = ap (λ i. row i n) l ∙ ap (row (lane_of line)) (d.1 ∙ same_count) ∙ sym (ap (by_refusal number (lane_of line) (readings_of (tree t) line)) (sym same_refusal ∙ d.0))
-  row_is (Err f) number d = sym (ap (by_refusal number (lane_of line) (readings_of (tree t) line)) (sym same_refusal ∙ d.0))
-
-  pub answer_written : (a : Result ℕ SheetFault) (number : ℕ) (r : Result (String Global) AllocError) → Settled lane text t a b s → IfOk r (λ y. string_bytes y ≡ answer_row number lane a) → IfOk r (λ y. string_bytes y ≡ line_row (tree t) number (filled b (lane_of line)) line)
-  answer_written a number r d m = IfOk-weaker r _ _ (λ y e. e ∙ row_is a number d) m
 
   -- a line that was entered
   lanes_accepted : (n : ℕ) → Settled lane text t (Ok n) b s → (k : ℕ) → filled s k ≡ filled_with (tree t) line (filled b) k

@@ -45,13 +45,6 @@ few_lines (b ∷ bs) = by (eqb b 10) (few_lines bs)
     by true few = omega arith
     by false few = omega (arith, length_onto b (lines bs))
 
--- a new sheet has no lane that is filled or owed
-pub opened_unfilled : (n : ℕ) (s : Sheet) → Opened n s → NoneOf (filled s)
-opened_unfilled n s o k = ap (λ st. not (same st Unfilled)) (o.unfilled k)
-
-pub opened_settled : (n : ℕ) (s : Sheet) → Opened n s → NoneOf (is_owed s)
-opened_settled n s o k = ap (λ st. same st Owed) (o.unfilled k)
-
 -- no table needs more than three weights for each of 512 nodes
 pub room_enough : (t : Table) → needed t ≤ 1536
 room_enough t =

@@ -1,5 +1,5 @@
 -- What is known of an entry that nothing refuses. Assumes nothing.
-use Rattle.std.proofs.Common.{◌≡◌, ℕ, ◌≤◌, Bool, true, false, cond, leb, List, length, Some, None, Option, Result, ap, subst, sym, arith}
+use Rattle.std.proofs.Common.{◌≡◌, ℕ, ◌≤◌, Bool, true, false, cond, leb, List, length, Some, None, Option, Result, ap, subst, sym}
 use Rattle.std.proofs.lemmas.Bool.{eqb-true, leb-true, and_parts}
 use Rattle.table.specs.declared.fault.Refusal.{Refusal}
 use Rattle.table.specs.declared.table.Table.{Table}
@@ -24,15 +24,15 @@ last_judge lane a b f j = (ap (λ o. or_else o b) j.0, j.1)
 -- nothing refuses: neither the first nor the second
 both_none : (a b : Option Refusal) → or_else a b ≡ None → (a ≡ None) × (b ≡ None)
 both_none None b e = (λ i. None, e)
-both_none (Some r) b e = absurd (let z : ◌≡◌ {A = ℕ} 0 1 = cc in omega arith)
+both_none (Some r) b e = absurd cc
 
 passed : (b : Bool) (r : Refusal) → cond b None (Some r) ≡ None → b ≡ true
 passed true r e = λ i. true
-passed false r e = absurd (let z : ◌≡◌ {A = ℕ} 0 1 = cc in omega arith)
+passed false r e = cc
 
 free : (b : Bool) (r : Refusal) → cond b (Some r) None ≡ None → b ≡ false
 free false r e = λ i. false
-free true r e = absurd (let z : ◌≡◌ {A = ℕ} 0 1 = cc in omega arith)
+free true r e = cc
 
 pub record Accepted (filled : Bool) (lane : ℕ) (line : List ℕ) (table : Table) (room : ℕ) : Type 0 where
   pub kind : (content table).kind ≡ byte_number

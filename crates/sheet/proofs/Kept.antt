@@ -1,6 +1,8 @@
 -- What holds of a sheet after every succession of calls. Assumes nothing.
-use Rattle.std.proofs.Common.{◌≡◌, ℕ, ◌+◌, ◌≤◌, Bool, true, false, cond, not, ◌&&◌, eqb, List, [], ◌∷◌, Some, None, Ok, Err, sym, refl, ap, ◌∙◌, subst, arith}
-use Rattle.std.proofs.lemmas.Bool.{eqb-true, and_parts, false≢true}
+use Rattle.std.proofs.Common.{◌≡◌, ◌↔◌, ℕ, ◌+◌, ◌≤◌, Bool, true, false, cond, not, ◌&&◌, eqb, List, [], ◌∷◌, Some, None, Ok, Err, sym, refl, ap, ◌∙◌, subst, arith}
+use mathlib.Core.Logic.Iff
+use Rattle.std.specs.Option.{IsSomeAnd}
+use Rattle.std.proofs.lemmas.Bool.{eqb-true, and_parts}
 use Rattle.table.specs.Content.{tree}
 use Rattle.table.specs.declared.table.Table.{Table}
 use Rattle.sheet.specs.declared.entry.Entry.{Entry}
@@ -10,7 +12,7 @@ use Rattle.sheet.specs.declared.slip.Returned.{Returned}
 use Rattle.sheet.specs.declared.slip.Slip.{Slip}
 use Rattle.sheet.specs.declared.standing.Standing.{Standing}
 use Rattle.sheet.specs.declared.standing.Standing.TheVariants.{Unfilled, Clean, Owed, Taken, Struck}
-use Rattle.sheet.specs.Account.{Exactly, Has, SomeReading, line_of, handed, gives, owed_in, AllDue, slip_refusal}
+use Rattle.sheet.specs.Account.{SomeReading, line_of, handed, gives, owed_in, AllDue, slip_refusal}
 use Rattle.sheet.specs.Calls.{Opened, Moved, Entered, Ruled, filled, matches}
 use Rattle.sheet.specs.Entries.{placed}
 use Rattle.sheet.specs.Faults.{refusal_of, sheet_refusal}
@@ -22,7 +24,7 @@ use Rattle.sheet.specs.Weighing.{line_weight}
 use Rattle.sheet.proofs.Accepts.{Accepted, accepted}
 use Rattle.sheet.proofs.Answered.{placed_owed, gives_more, becomes_more, becomes_settled, becomes_grade}
 use Rattle.sheet.proofs.Counted.{count_in_pair}
-use Rattle.sheet.proofs.Grades.{also, more, Grade, grade_placed, grade_filled, count_at, has_some}
+use Rattle.sheet.proofs.Grades.{more, Grade, grade_placed, grade_filled, count_at, has_some}
 use Rattle.sheet.proofs.Tallies.{picked_same, picked_put}
 
 pub record Kept (number : ℕ) (h : List Event) (s : Sheet) : Type 0 where
@@ -36,17 +38,17 @@ pub record Kept (number : ℕ) (h : List Event) (s : Sheet) : Type 0 where
 
 unfilled_is : (st : Standing) → not (same st Unfilled) ≡ false → st ≡ Unfilled
 unfilled_is Unfilled e = refl
-unfilled_is Clean e = absurd (false≢true (sym e))
-unfilled_is Owed e = absurd (false≢true (sym e))
-unfilled_is Taken e = absurd (false≢true (sym e))
-unfilled_is Struck e = absurd (false≢true (sym e))
+unfilled_is Clean e = cc
+unfilled_is Owed e = cc
+unfilled_is Taken e = cc
+unfilled_is Struck e = cc
 
 owed_is : (st : Standing) → same st Owed ≡ true → st ≡ Owed
-owed_is Unfilled e = absurd (false≢true e)
-owed_is Clean e = absurd (false≢true e)
+owed_is Unfilled e = cc
+owed_is Clean e = cc
 owed_is Owed e = refl
-owed_is Taken e = absurd (false≢true e)
-owed_is Struck e = absurd (false≢true e)
+owed_is Taken e = cc
+owed_is Struck e = cc
 
 at_open : {number : ℕ} {s : Sheet} → Opened number s → Kept number [] s
 at_open {s} o = record {
@@ -63,8 +65,8 @@ more_cond false p q = refl
 
 module _ {number : ℕ} {h : List Event} {b : Sheet} (inv : Kept number h b) where
   -- a lane that was filled is known to be so from its line
-  told : (lane : ℕ) → Exactly (filled b lane ≡ true) (Has SomeReading (line_of h lane))
-  told lane = also (grade_filled (standing b lane) (count_at (line_of h lane)) (inv.graded lane)) (has_some (line_of h lane))
+  told : (lane : ℕ) → ((filled b lane ≡ true) ↔ IsSomeAnd (line_of h lane) SomeReading)
+  told lane = Iff.trans (grade_filled (standing b lane) (count_at (line_of h lane)) (inv.graded lane)) (has_some (line_of h lane))
 
   entry_kept : {s : Sheet} (lane : ℕ) (line : List ℕ) (table : Table) (room : ℕ) (e : Entry) → Entered lane line table room (Ok e) b s → Kept number (enter lane line table room (Ok e) ∷ h) s
   entry_kept {s} lane line table room e d = record {

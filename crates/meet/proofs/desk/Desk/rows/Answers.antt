@@ -1,10 +1,10 @@
-use Rattle.std.proofs.Common.{◌≡◌, ℕ, ◌+◌, ◌^◌, ◌<◌, [], ◌∷◌, ◌++◌, length, vec_items, string_bytes, sym, ap, ◌∙◌, inl, arith}
+use Rattle.std.proofs.Common.{◌≡◌, ◌+◌, [], ◌∷◌, ◌++◌, length, vec_items, string_bytes, ap, ◌∙◌, inl, arith}
 use Rattle.std.specs.Iterator.Adapters.{enumerate_count, enumerate_source}
 use Rattle.lines.specs.Lines.{lines}
 use Rattle.lines.specs.Rest.{lines_left}
 use Rattle.sheet.specs.Calls.{filled}
 use Rattle.table.specs.Content.{tree}
-use Rattle.meet.specs.Meet.{filled_by, filled_with, line_row, rows}
+use Rattle.meet.specs.Meet.{filled_with, line_row, rows}
 use Rattle.meet.specs.Parts.{lane_of}
 use Rattle.meet.proofs.Running.{few_lines, next_filled, next_rows}
 use Rattle.meet.proofs.desk.Desk.rows.Goals as goal
