@@ -1,5 +1,5 @@
 -- A meet's patterns, and that only one thing can be written by them. Assumes nothing.
-use Rattle.std.proofs.Common.{◌≡◌, ℕ, ◌⊎◌, List, [], length, Ok, Err, sym, ap, ◌∙◌, inl, inr, arith}
+use Rattle.std.proofs.Common.{◌≡◌, ℕ, ◌⊎◌, List, [], length, Ok, Err, sym, ap, ◌∙◌, inl, inr}
 use Rattle.lines.specs.Lines.{lines}
 use Rattle.table.specs.Content as tables
 use Rattle.table.specs.Content.{content}

@@ -1,26 +1,19 @@
 -- One line's row, and the lanes after it. Assumes nothing.
-use Rattle.std.proofs.Common.{◌≡◌, ℕ, ◌≤◌, Bool, true, false, cond, not, ◌&&◌, ◌||◌, eqb, leb, List, length, is_some, IfOk, Some, None, Ok, Err, string_bytes, Option, Result, String, sym, refl, ap, ◌∙◌, arith}
-use Rattle.std.specs.declared.alloc.AllocError.{AllocError}
-use Rattle.std.specs.declared.alloc.Global.{Global}
-use Rattle.std.proofs.lemmas.Result.{IfOk-weaker}
-use Rattle.std.proofs.lemmas.Bool.{cond-true, eq-eqb, eqb-true, le-leb}
+use Rattle.std.proofs.Common.{◌≡◌, ℕ, Bool, true, false, cond, not, ◌&&◌, ◌||◌, eqb, leb, List, length, is_some, Some, None, Ok, Err, Option, Result, sym, refl, ap, ◌∙◌}
+use Rattle.std.proofs.lemmas.Bool.{eqb-true}
 use Rattle.table.specs.declared.fault.Refusal.{Refusal}
 use Rattle.table.specs.declared.table.Table.{Table}
-use Rattle.table.specs.Content.{content, tree}
-use Rattle.table.specs.Kinds.{byte_number}
+use Rattle.table.specs.Content.{tree}
 use Rattle.table.specs.Rules.{or_else}
 use Rattle.sheet.specs.declared.fault.SheetFault.{SheetFault}
 use Rattle.sheet.specs.declared.sheet.Sheet.{Sheet}
 use Rattle.sheet.specs.Calls.{filled}
-use Rattle.sheet.specs.Closes.{is_owed}
 use Rattle.sheet.specs.Faults.{sheet_refusal}
-use Rattle.sheet.specs.Lanes.{NoneOf}
-use Rattle.sheet.specs.Refusals.{entry_refusal, filled_refusal, lane_refusal, line_refusal, room_refusal, session_judged}
-use Rattle.sheet.specs.Weighing.{line_weight, needed}
-use Rattle.meet.specs.Meet.{by_refusal, filled_with, line_row, readings_of, refusal}
+use Rattle.sheet.specs.Refusals.{lane_refusal, line_refusal}
+use Rattle.sheet.specs.Weighing.{line_weight}
+use Rattle.meet.specs.Meet.{filled_with, readings_of, refusal}
 use Rattle.meet.specs.Parts.{lane_of, text_of}
-use Rattle.meet.specs.Rows.{row}
-use Rattle.meet.specs.Settled.{Settled, answer_row, text_refusal}
+use Rattle.meet.specs.Settled.{Settled, text_refusal}
 
 -- a line that is not refused has a lane that is not filled
 not_filled : (a b : Option Refusal) (f : Bool) (r : Refusal) → or_else a (or_else b (cond f (Some r) None)) ≡ None → f ≡ false

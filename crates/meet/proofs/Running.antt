@@ -1,16 +1,10 @@
 -- The rows of line after line. Assumes nothing.
-use Rattle.std.proofs.Common.{◌≡◌, ℕ, ◌+◌, ◌≤◌, Bool, true, false, cond, not, ◌&&◌, ◌||◌, eqb, List, [], ◌∷◌, ◌++◌, length, sym, ap, ◌∙◌, append_assoc, arith, length-take}
+use Rattle.std.proofs.Common.{◌≡◌, ℕ, ◌+◌, ◌≤◌, Bool, true, false, cond, ◌&&◌, ◌||◌, eqb, List, [], ◌∷◌, ◌++◌, length, sym, ap, ◌∙◌, append_assoc, arith, length-take}
 use Rattle.lines.specs.Lines.{lines, onto}
 use Rattle.table.specs.declared.table.Table.{Table}
 use Rattle.table.specs.Content.{content, tree}
 use Rattle.table.specs.Tree.{Tree, size}
 use Rattle.table.proofs.Postfix.{length_postfix}
-use Rattle.sheet.specs.declared.sheet.Sheet.{Sheet}
-use Rattle.sheet.specs.declared.standing.Standing.TheVariants.{Owed, Unfilled}
-use Rattle.sheet.specs.Calls.{Opened, filled}
-use Rattle.sheet.specs.Closes.{is_owed}
-use Rattle.sheet.specs.Lanes.{NoneOf}
-use Rattle.sheet.specs.Standings.{same}
 use Rattle.sheet.specs.Weighing.{needed}
 use Rattle.meet.specs.Meet.{filled_by, filled_with, fills, line_row, rows}
 use Rattle.meet.specs.Parts.{lane_of}

@@ -52,9 +52,7 @@ impl<'t> Desk<'t> {
         ensures table { self.new.table.now ≡ self.old.table.now }
         ensures settled { Settled lane line.now self.old.table.now result self.old.sheet self.new.sheet }
     {
-        let entry = self
-            .sheet
-            .enter(lane, line, self.table, &mut self.weights)?;
+        let entry = self.sheet.enter(lane, line, self.table, &mut self.weights)?;
         Ok(rule(&mut self.sheet, entry))
     }
 

@@ -12,7 +12,7 @@ invariant-loop-number l = record {
   table : l.self.table.now ≡ l.initial.self.table.now;
   few : enumerate_count l.number-iterator + length (lines_left (enumerate_source l.number-iterator)) ≤ length l.results;
   written : (before : List (List ℕ))
-  × (enumerate_count l.number-iterator ≡ length before)
-  × ((k : ℕ) → filled l.self.sheet k ≡ filled_by (tree l.initial.self.table.now) before k)
-  × (vec_items l.out ++ rows (tree l.initial.self.table.now) before (lines_left (enumerate_source l.number-iterator)) ≡ rows (tree l.initial.self.table.now) [] (lines l.results))
+      × (enumerate_count l.number-iterator ≡ length before)
+      × ((k : ℕ) → filled l.self.sheet k ≡ filled_by (tree l.initial.self.table.now) before k)
+      × (vec_items l.out ++ rows (tree l.initial.self.table.now) before (lines_left (enumerate_source l.number-iterator)) ≡ rows (tree l.initial.self.table.now) [] (lines l.results));
 }
