@@ -1,5 +1,5 @@
 -- What holds of a sheet after every succession of calls. Assumes nothing.
-use Rattle.std.proofs.Common.{◌≡◌, ◌↔◌, ℕ, ◌+◌, ◌≤◌, Bool, true, false, cond, not, ◌&&◌, eqb, List, [], ◌∷◌, Some, None, Ok, Err, sym, refl, ap, ◌∙◌, subst, arith}
+use Rattle.std.proofs.Common.{◌≡◌, ◌↔◌, ℕ, ◌+◌, Bool, true, false, cond, not, ◌&&◌, eqb, List, [], ◌∷◌, Some, None, Ok, Err, sym, refl, ap, ◌∙◌, subst, arith}
 use mathlib.Core.Logic.Iff
 use Rattle.std.specs.Option.{IsSomeAnd}
 use Rattle.std.proofs.lemmas.Bool.{eqb-true, and_parts}
@@ -115,30 +115,29 @@ module _ {number : ℕ} {h : List Event} {b : Sheet} (inv : Kept number h b) whe
   matched p = λ i. eqb p.sheet (inv.numbered i) && inv.owes p.lane i
 
   -- a ruling that was given moves the lane on among those with more readings
-  module _ {s : Sheet} (to : Standing) (p : Slip) (high : more to ≡ true) (settled : same to Owed ≡ false) (grade : (n : ℕ) → 2 ≤ n → Grade to n)
-      (m : matches b p ≡ true) (mv : Moved p.lane to b s) where
+  module _ {s : Sheet} (r : Ruling) (p : Slip) (m : matches b p ≡ true) (mv : Moved p.lane (becomes r) b s) where
     was_owed : standing b p.lane ≡ Owed
     was_owed = owed_is (standing b p.lane) (and_parts (eqb p.sheet b.number) _ m).1
 
     ruled_graded : (k : ℕ) → Grade (standing s k) (count_at (line_of h k))
     ruled_graded k = rw (mv.stands k) (by (eqb k p.lane) (λ e. eqb-true k p.lane e))
       where
-        by : (x : Bool) → (x ≡ true → k ≡ p.lane) → Grade (cond x to (standing b k)) (count_at (line_of h k))
-        by true e = grade (count_at (line_of h k)) (subst (λ st. Grade st (count_at (line_of h k))) (ap (standing b) (e refl) ∙ was_owed) (inv.graded k))
+        by : (x : Bool) → (x ≡ true → k ≡ p.lane) → Grade (cond x (becomes r) (standing b k)) (count_at (line_of h k))
+        by true e = becomes_grade r (count_at (line_of h k)) (subst (λ st. Grade st (count_at (line_of h k))) (ap (standing b) (e refl) ∙ was_owed) (inv.graded k))
         by false e = inv.graded k
 
     ruled_owes : (k : ℕ) → same (standing s k) Owed ≡ cond (eqb k p.lane) false (owed_in h k)
     ruled_owes k = rw (mv.stands k) (by (eqb k p.lane))
       where
-        by : (x : Bool) → same (cond x to (standing b k)) Owed ≡ cond x false (owed_in h k)
-        by true = settled
+        by : (x : Bool) → same (cond x (becomes r) (standing b k)) Owed ≡ cond x false (owed_in h k)
+        by true = becomes_settled r
         by false = inv.owes k
 
     ruled_slips : handed h ≡ picked (λ k. more (standing s k)) 16
     ruled_slips = inv.slips ∙ sym (picked_same (λ k. more (standing b k)) (λ k. more (standing s k)) (λ k. ap more (mv.stands k) ∙ by k (eqb k p.lane) (λ e. eqb-true k p.lane e)) 16)
       where
-        by : (k : ℕ) (x : Bool) → (x ≡ true → k ≡ p.lane) → more (cond x to (standing b k)) ≡ more (standing b k)
-        by k true e = high ∙ sym (ap more (ap (standing b) (e refl) ∙ was_owed))
+        by : (k : ℕ) (x : Bool) → (x ≡ true → k ≡ p.lane) → more (cond x (becomes r) (standing b k)) ≡ more (standing b k)
+        by k true e = becomes_more r ∙ sym (ap more (ap (standing b) (e refl) ∙ was_owed))
         by k false e = refl
 
     ruled_due : None ≡ slip_refusal (eqb p.sheet number && owed_in h p.lane) p.lane
@@ -149,17 +148,13 @@ module _ {number : ℕ} {h : List Event} {b : Sheet} (inv : Kept number h b) whe
   back_due p r m f = ap Some f ∙ sym (ap (λ x. slip_refusal x p.lane) (sym (matched p) ∙ m))
 
   given_kept : {s : Sheet} (r : Ruling) (p : Slip) (u : Unit {0}) → Ruled (becomes r) p (Ok u) b s → Kept number (rule r p (Ok u) ∷ h) s
-  given_kept r p u d =
-      let high = becomes_more r in
-      let settled = becomes_settled r in
-      let grade = becomes_grade r in
-      record {
-        numbered = d.1.numbered ∙ inv.numbered;
-        graded = ruled_graded (becomes r) p high settled grade d.0 d.1;
-        owes = ruled_owes (becomes r) p high settled grade d.0 d.1;
-        slips = ruled_slips (becomes r) p high settled grade d.0 d.1;
-        due_all = (ruled_due (becomes r) p high settled grade d.0 d.1, inv.due_all);
-      }
+  given_kept r p u d = record {
+    numbered = d.1.numbered ∙ inv.numbered;
+    graded = ruled_graded r p d.0 d.1;
+    owes = ruled_owes r p d.0 d.1;
+    slips = ruled_slips r p d.0 d.1;
+    due_all = (ruled_due r p d.0 d.1, inv.due_all);
+  }
 
   back_kept : {s : Sheet} (r : Ruling) (p : Slip) (q : Returned) → Ruled (becomes r) p (Err q) b s → Kept number (rule r p (Err q) ∷ h) s
   back_kept r p q d = subst (λ x. Kept number (rule r p (Err q) ∷ h) x) (sym d.3) (record {

@@ -39,7 +39,8 @@ impl Sheet {
         Ok(entry)
     }
 
-    // All that refuses an entry, the lowest number first.
+    // All that refuses an entry, the lowest number first; else the lane. Table and weights stand apart here and below, as
+    // `enter` is given them and the session takes them.
     fn judge(
         &self,
         lane: u8,
