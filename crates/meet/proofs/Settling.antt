@@ -11,13 +11,12 @@ use Rattle.sheet.specs.declared.fault.SheetFault.{SheetFault}
 use Rattle.sheet.specs.declared.sheet.Sheet.{Sheet}
 use Rattle.sheet.specs.declared.slip.Slip.{Slip}
 use Rattle.sheet.specs.declared.standing.Standing.TheVariants.{Unfilled, Struck}
-use Rattle.sheet.specs.Account.{gives}
 use Rattle.sheet.specs.Calls.{Entered, Moved, filled}
 use Rattle.sheet.specs.Closes.{is_owed}
 use Rattle.sheet.specs.Entries.{outcome, placed}
 use Rattle.sheet.specs.History.{strike}
 use Rattle.sheet.specs.Lanes.{NoneOf}
-use Rattle.sheet.specs.Refusals.{entry_refusal, room_refusal, session_judged}
+use Rattle.sheet.specs.Refusals.{entry_refusal, own_refusal, room_refusal, session_judged}
 use Rattle.sheet.specs.Sheets.{standing}
 use Rattle.sheet.specs.Slips.{new_slip}
 use Rattle.sheet.specs.Standings.{same}
@@ -25,7 +24,7 @@ use Rattle.sheet.specs.Weighing.{line_weight, needed}
 use Rattle.sheet.proofs.Answered.{gives_more, slip_due}
 use Rattle.sheet.proofs.Grades.{more}
 use Rattle.sheet.proofs.Owing.{entry_owes, slip_matches, ruling_owes}
-use Rattle.meet.specs.Settled.{Matched, Settled, StruckBy, text_refusal}
+use Rattle.meet.specs.Settled.{Matched, Settled, StruckBy}
 
 filled_placed : (n : ℕ) → not (same (placed n) Unfilled) ≡ leb 1 n
 filled_placed zero = refl
@@ -36,13 +35,6 @@ more_some : (n : ℕ) → true ≡ more (placed n) → true ≡ leb 1 n
 more_some zero e = e
 more_some (suc zero) e = refl
 more_some (suc (suc n)) e = sym (le-leb 1 (suc (suc n)) (omega arith))
-
-moved_filled : (lane n : ℕ) (b s : Sheet) → Moved lane (placed n) b s → (k : ℕ) → filled s k ≡ cond (eqb k lane) (leb 1 n) (filled b k)
-moved_filled lane n b s m k = ap (λ st. not (same st Unfilled)) (m.stands k) ∙ by (eqb k lane)
-  where
-    by : (x : Bool) → not (same (cond x (placed n) (standing b k)) Unfilled) ≡ cond x (leb 1 n) (filled b k)
-    by true = filled_placed n
-    by false = refl
 
 -- a slip that was just handed out matches
 pub matched : (lane : ℕ) (line : List ℕ) (table : Table) (room : ℕ) (e : Entry) (b s : Sheet) → Entered lane line table room (Ok e) b s → Matched s e
@@ -58,48 +50,40 @@ module _ (lane : ℕ) (line : List ℕ) (table : Table) (room : ℕ) (kind : (co
       ∙ cond-true (leb (needed table) room) None _ (le-leb (needed table) room fits)
 
   -- so what refuses a line is told by lane, text and filled lanes
-  line_refused : (f : Bool) → text_refusal f lane line ≡ entry_refusal f lane line table room
-  line_refused f = sym (ap (λ o. or_else o (text_refusal f lane line)) session_accepts)
+  line_refused : (f : Bool) → own_refusal f lane line ≡ entry_refusal f lane line table room
+  line_refused f = sym (ap (λ o. or_else o (own_refusal f lane line)) session_accepts)
 
   -- an entry without a slip
   settled_plain : (e : Entry) (b s : Sheet) → Entered lane line table room (Ok e) b s → (n : ℕ) → n ≡ (outcome e).count → Settled lane line table (Ok n) b s
-  settled_plain e b s d n c =
-      let same_count : n ≡ (line_weight table line).first.value = c ∙ ap (λ o. o.count) d.1 in (
-        line_refused (filled b lane) ∙ d.0,
-        same_count,
-        (λ k. moved_filled lane (line_weight table line).first.value b s d.2 k ∙ ap (λ m. cond (eqb k lane) (leb 1 m) (filled b k)) (sym same_count)),
-      )
+  settled_plain e b s d n c = (line_refused (filled b lane) ∙ d.0, same_count, λ k. ap (λ st. not (same st Unfilled)) (d.2.stands k) ∙ by k (eqb k lane))
+    where
+      same_count : n ≡ (line_weight table line).first.value
+      same_count = c ∙ ap (λ o. o.count) d.1
+
+      by : (k : ℕ) (x : Bool) → not (same (cond x (placed (line_weight table line).first.value) (standing b k)) Unfilled) ≡ cond x (leb 1 n) (filled b k)
+      by k true = filled_placed _ ∙ ap (leb 1) (sym same_count)
+      by k false = refl
 
   -- an entry whose slip is struck
-  settled_struck : (e : Entry) (b s : Sheet) → Entered lane line table room (Ok e) b s → (price : ℕ) (p : Slip) → e ≡ entries.Owed price p → (after : Sheet) → Moved p.lane Struck s after → (n : ℕ) → n ≡ p.count → Settled lane line table (Ok n) b after
-  settled_struck e b s d price p is after m n c =
-      let due_slip = slip_due price p b.number lane (line_weight table line) (sym (ap outcome is) ∙ d.1) in
-      let same_count : n ≡ (line_weight table line).first.value = c ∙ ap (λ q. q.count) due_slip in
-      let several : true ≡ more (placed (line_weight table line).first.value) = sym (ap (λ x. gives (Ok x)) is) ∙ gives_more e b.number lane (line_weight table line) d.1 in (
-        line_refused (filled b lane) ∙ d.0,
-        same_count,
-        (λ k. by k due_slip same_count several),
-      )
+  settled_struck : (price : ℕ) (p : Slip) (b s after : Sheet) → Entered lane line table room (Ok (entries.Owed price p)) b s → Moved p.lane Struck s after → (n : ℕ) → n ≡ p.count → Settled lane line table (Ok n) b after
+  settled_struck price p b s after d m n c =
+      (line_refused (filled b lane) ∙ d.0, same_count, λ k. ap (λ st. not (same st Unfilled)) (m.stands k ∙ ap (λ l. cond (eqb k l) Struck (standing s k)) (ap (λ q. q.lane) due_slip) ∙ ap (cond (eqb k lane) Struck) (d.2.stands k)) ∙ by k (eqb k lane))
     where
-      two : (x : Bool) (k : ℕ) → true ≡ leb 1 n → not (same (cond x Struck (standing s k)) Unfilled) ≡ cond x (leb 1 n) (filled s k)
-      two true k t = t
-      two false k t = refl
+      due_slip : p ≡ new_slip b.number lane (line_weight table line).first.value
+      due_slip = slip_due price p b.number lane (line_weight table line) d.1
 
-      over : (x : Bool) (y z w : Bool) → z ≡ cond x y w → cond x y z ≡ cond x y w
-      over true y z w e = refl
-      over false y z w e = e
+      same_count : n ≡ (line_weight table line).first.value
+      same_count = c ∙ ap (λ q. q.count) due_slip
 
-      by : (k : ℕ) → p ≡ new_slip b.number lane (line_weight table line).first.value → n ≡ (line_weight table line).first.value → true ≡ more (placed (line_weight table line).first.value) → filled after k ≡ cond (eqb k lane) (leb 1 n) (filled b k)
-      by k due_slip same_count several =
-          ap (λ st. not (same st Unfilled)) (m.stands k ∙ ap (λ l. cond (eqb k l) Struck (standing s k)) (ap (λ q. q.lane) due_slip))
-          ∙ two (eqb k lane) k (more_some _ several ∙ ap (leb 1) (sym same_count))
-          ∙ over (eqb k lane) (leb 1 n) (filled s k) (filled b k) (moved_filled lane (line_weight table line).first.value b s d.2 k ∙ ap (λ i. cond (eqb k lane) (leb 1 i) (filled b k)) (sym same_count))
+      by : (k : ℕ) (x : Bool) → not (same (cond x Struck (cond x (placed (line_weight table line).first.value) (standing b k))) Unfilled) ≡ cond x (leb 1 n) (filled b k)
+      by k true = more_some _ (gives_more (entries.Owed price p) b.number lane (line_weight table line) d.1) ∙ ap (leb 1) (sym same_count)
+      by k false = refl
 
   -- an entry that is ruled on
   pub settled_ruled : (e : Entry) (b s after : Sheet) → Entered lane line table room (Ok e) b s → StruckBy e s after → (n : ℕ) → n ≡ (outcome e).count → Settled lane line table (Ok n) b after
   settled_ruled entries.Unreadable b s after d m n c = subst (Settled lane line table (Ok n) b) (sym m) (settled_plain entries.Unreadable b s d n c)
   settled_ruled (entries.Clean price) b s after d m n c = subst (Settled lane line table (Ok n) b) (sym m) (settled_plain (entries.Clean price) b s d n c)
-  settled_ruled (entries.Owed price p) b s after d m n c = settled_struck (entries.Owed price p) b s d price p refl after m n c
+  settled_ruled (entries.Owed price p) b s after d m n c = settled_struck price p b s after d m n c
 
   -- a refusal
   pub settled_refused : (f : SheetFault) (b s : Sheet) → Entered lane line table room (Err f) b s → Settled lane line table (Err f) b s

@@ -1,5 +1,5 @@
 -- What a line that is entered, and struck where it has several readings, answers and leaves. Assumes nothing.
-use Rattle.std.specs.Prelude.{◌≡◌, ℕ, Bool, true, cond, List, length, Some, None, Ok, Err, Option, Result, ◌==◌, nat_le}
+use Rattle.std.specs.Prelude.{◌≡◌, ℕ, true, cond, List, Some, None, Ok, Err, Result, ◌==◌, nat_le}
 use Rattle.sheet.specs.declared.entry.Entry.{Entry}
 use Rattle.sheet.specs.declared.entry.Entry.TheVariants.{Unreadable, Clean, Owed}
 use Rattle.sheet.specs.declared.fault.SheetFault.{SheetFault}
@@ -7,11 +7,9 @@ use Rattle.sheet.specs.declared.sheet.Sheet.{Sheet}
 use Rattle.sheet.specs.declared.standing.Standing.TheVariants.{Struck}
 use Rattle.sheet.specs.Calls.{Moved, filled, matches}
 use Rattle.sheet.specs.Faults.{refusal_of}
-use Rattle.sheet.specs.Refusals.{filled_refusal, lane_refusal, line_refusal}
+use Rattle.sheet.specs.Refusals.{own_refusal}
 use Rattle.sheet.specs.Weighing.{line_weight}
-use Rattle.table.specs.declared.fault.Refusal.{Refusal}
 use Rattle.table.specs.declared.table.Table.{Table}
-use Rattle.table.specs.Rules.{or_else}
 use Rattle.meet.specs.Rows.{fault_row, row}
 
 -- a slip in an answer is for this sheet
@@ -26,18 +24,14 @@ StruckBy Unreadable before after = after ≡ before
 StruckBy (Clean p) before after = after ≡ before
 StruckBy (Owed p slip) before after = Moved slip.lane Struck before after
 
--- what refuses a text at a lane, which is filled or not: a lane that is none, a text that is too long, a lane that is filled
-abbrev pub text_refusal : Bool → ℕ → List ℕ → Option Refusal
-text_refusal filled lane text = or_else (lane_refusal lane) (or_else (line_refusal (length text)) (filled_refusal filled lane))
-
 -- the number of readings, and a lane that is filled where there is one; or the refusal, and the lanes as they were
 abbrev pub Settled : ℕ → List ℕ → Table → Result ℕ SheetFault → Sheet → Sheet → Type 0
 Settled lane text table (Ok n) before after =
-    (text_refusal (filled before lane) lane text ≡ None)
+    (own_refusal (filled before lane) lane text ≡ None)
     × (n ≡ (line_weight table text).first.value)
     × ((k : ℕ) → filled after k ≡ cond (k == lane) (nat_le 1 n) (filled before k))
 Settled lane text table (Err f) before after =
-    (text_refusal (filled before lane) lane text ≡ Some (refusal_of f))
+    (own_refusal (filled before lane) lane text ≡ Some (refusal_of f))
     × ((k : ℕ) → filled after k ≡ filled before k)
 
 -- the row of such an answer

@@ -31,13 +31,16 @@ filled_refusal filled lane = cond filled (Some (sheet_refusal 21 lane)) None
 abbrev pub session_judged : Table → ℕ → Option Refusal
 session_judged table room = or_else (kind_refusal (content table).kind) (room_refusal (needed table) room)
 
+-- what the sheet itself refuses, the lowest number first; or nothing
+abbrev pub own_refusal : Bool → ℕ → List ℕ → Option Refusal
+own_refusal filled lane line =
+    or_else (lane_refusal lane)
+    (or_else (line_refusal (length line))
+    (filled_refusal filled lane))
+
 -- what entering is refused by, the lowest number first; or nothing
 abbrev pub entry_refusal : Bool → ℕ → List ℕ → Table → ℕ → Option Refusal
-entry_refusal filled lane line table room =
-    or_else (session_judged table room)
-    (or_else (lane_refusal lane)
-    (or_else (line_refusal (length line))
-    (filled_refusal filled lane)))
+entry_refusal filled lane line table room = or_else (session_judged table room) (own_refusal filled lane line)
 
 -- what an answer says of refusals
 abbrev pub answered : {A : Type 0} → Result A SheetFault → Option Refusal
