@@ -11,7 +11,7 @@ use Rattle.sheet.specs.declared.sheet.Sheet.{Sheet}
 use Rattle.sheet.specs.declared.slip.Returned.{Returned}
 use Rattle.sheet.specs.declared.slip.Slip.{Slip}
 use Rattle.sheet.specs.declared.standing.Standing.{Standing}
-use Rattle.sheet.specs.declared.standing.Standing.TheVariants.{Unfilled, Clean, Owed, Taken, Struck}
+use Rattle.sheet.specs.declared.standing.Standing.TheVariants.{Unfilled, Owed}
 use Rattle.sheet.specs.Account.{SomeReading, line_of, handed, gives, owed_in, AllDue, slip_refusal}
 use Rattle.sheet.specs.Calls.{Opened, Moved, Entered, Ruled, filled, matches}
 use Rattle.sheet.specs.Entries.{placed}
@@ -37,18 +37,10 @@ pub record Kept (number : ℕ) (h : List Event) (s : Sheet) : Type 0 where
 -- standings are told apart by their ranks
 
 unfilled_is : (st : Standing) → not (same st Unfilled) ≡ false → st ≡ Unfilled
-unfilled_is Unfilled e = refl
-unfilled_is Clean e = cc
-unfilled_is Owed e = cc
-unfilled_is Taken e = cc
-unfilled_is Struck e = cc
+unfilled_is st e = grind arith
 
 owed_is : (st : Standing) → same st Owed ≡ true → st ≡ Owed
-owed_is Unfilled e = cc
-owed_is Clean e = cc
-owed_is Owed e = refl
-owed_is Taken e = cc
-owed_is Struck e = cc
+owed_is st e = grind arith
 
 at_open : {number : ℕ} {s : Sheet} → Opened number s → Kept number [] s
 at_open {s} o = record {
@@ -60,8 +52,7 @@ at_open {s} o = record {
 }
 
 more_cond : (x : Bool) (p q : Standing) → more (cond x p q) ≡ cond x (more p) (more q)
-more_cond true p q = refl
-more_cond false p q = refl
+more_cond x p q = grind arith
 
 module _ {number : ℕ} {h : List Event} {b : Sheet} (inv : Kept number h b) where
   -- a lane that was filled is known to be so from its line
