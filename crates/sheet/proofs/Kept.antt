@@ -3,6 +3,7 @@ use Rattle.std.proofs.Common.{◌≡◌, ◌↔◌, ℕ, ◌+◌, Bool, true, fa
 use mathlib.Core.Logic.Iff
 use Rattle.std.specs.Option.{IsSomeAnd}
 use Rattle.std.proofs.lemmas.Bool.{eqb-true, and_parts}
+use Rattle.std.proofs.lemmas.Bool.Decides.{nat_tests}
 use Rattle.table.specs.Content.{tree}
 use Rattle.table.specs.declared.table.Table.{Table}
 use Rattle.sheet.specs.declared.entry.Entry.{Entry}
@@ -111,25 +112,13 @@ module _ {number : ℕ} {h : List Event} {b : Sheet} (inv : Kept number h b) whe
     was_owed = owed_is (standing b p.lane) (and_parts (eqb p.sheet b.number) _ m).1
 
     ruled_graded : (k : ℕ) → Grade (standing s k) (count_at (line_of h k))
-    ruled_graded k = rw (mv.stands k) (by (eqb k p.lane) (λ e. eqb-true k p.lane e))
-      where
-        by : (x : Bool) → (x ≡ true → k ≡ p.lane) → Grade (cond x (becomes r) (standing b k)) (count_at (line_of h k))
-        by true e = becomes_grade r (count_at (line_of h k)) (subst (λ st. Grade st (count_at (line_of h k))) (ap (standing b) (e refl) ∙ was_owed) (inv.graded k))
-        by false e = inv.graded k
+    ruled_graded k = grind (arith, nat_tests, mv.stands k, inv.graded k, was_owed, becomes_grade r)
 
     ruled_owes : (k : ℕ) → same (standing s k) Owed ≡ cond (eqb k p.lane) false (owed_in h k)
-    ruled_owes k = rw (mv.stands k) (by (eqb k p.lane))
-      where
-        by : (x : Bool) → same (cond x (becomes r) (standing b k)) Owed ≡ cond x false (owed_in h k)
-        by true = becomes_settled r
-        by false = inv.owes k
+    ruled_owes k = grind (arith, nat_tests, mv.stands k, inv.owes k, becomes_settled r)
 
     ruled_slips : handed h ≡ picked (λ k. more (standing s k)) 16
-    ruled_slips = inv.slips ∙ sym (picked_same (λ k. more (standing b k)) (λ k. more (standing s k)) (λ k. ap more (mv.stands k) ∙ by k (eqb k p.lane) (λ e. eqb-true k p.lane e)) 16)
-      where
-        by : (k : ℕ) (x : Bool) → (x ≡ true → k ≡ p.lane) → more (cond x (becomes r) (standing b k)) ≡ more (standing b k)
-        by k true e = becomes_more r ∙ sym (ap more (ap (standing b) (e refl) ∙ was_owed))
-        by k false e = refl
+    ruled_slips = inv.slips ∙ sym (picked_same (λ k. more (standing b k)) (λ k. more (standing s k)) (λ k. grind (arith, nat_tests, mv.stands k, was_owed, becomes_more r)) 16)
 
     ruled_due : None ≡ slip_refusal (eqb p.sheet number && owed_in h p.lane) p.lane
     ruled_due = sym (ap (λ x. slip_refusal x p.lane) (sym (matched p) ∙ m))
