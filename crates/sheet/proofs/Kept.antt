@@ -1,10 +1,9 @@
 -- What holds of a sheet after every succession of calls. Assumes nothing.
-use Rattle.std.proofs.Common.{◌≡◌, ◌↔◌, ℕ, ◌+◌, Bool, true, false, cond, not, ◌&&◌, eqb, List, [], ◌∷◌, Some, None, Ok, Err, sym, refl, ap, ◌∙◌, subst, arith}
+use Rattle.std.proofs.Common.{◌≡◌, ◌↔◌, ℕ, ◌+◌, true, false, cond, not, ◌&&◌, eqb, List, [], ◌∷◌, Some, None, Ok, Err, sym, refl, ap, ◌∙◌, subst, arith}
 use mathlib.Core.Logic.Iff
 use Rattle.std.specs.Option.{IsSomeAnd}
-use Rattle.std.proofs.lemmas.Bool.{eqb-true, and_parts}
+use Rattle.std.proofs.lemmas.Bool.{and_parts}
 use Rattle.std.proofs.lemmas.Bool.Decides.{nat_tests}
-use Rattle.table.specs.Content.{tree}
 use Rattle.table.specs.declared.table.Table.{Table}
 use Rattle.sheet.specs.declared.entry.Entry.{Entry}
 use Rattle.sheet.specs.declared.fault.SheetFault.{SheetFault}
@@ -52,9 +51,6 @@ at_open {s} o = record {
   due_all = tt;
 }
 
-more_cond : (x : Bool) (p q : Standing) → more (cond x p q) ≡ cond x (more p) (more q)
-more_cond x p q = grind arith
-
 module _ {number : ℕ} {h : List Event} {b : Sheet} (inv : Kept number h b) where
   -- a lane that was filled is known to be so from its line
   told : (lane : ℕ) → ((filled b lane ≡ true) ↔ IsSomeAnd (line_of h lane) SomeReading)
@@ -63,8 +59,8 @@ module _ {number : ℕ} {h : List Event} {b : Sheet} (inv : Kept number h b) whe
   entry_kept : {s : Sheet} (lane : ℕ) (line : List ℕ) (table : Table) (room : ℕ) (e : Entry) → Entered lane line table room (Ok e) b s → Kept number (enter lane line table room (Ok e) ∷ h) s
   entry_kept {s} lane line table room e d = record {
     numbered = d.2.numbered ∙ inv.numbered;
-    graded = λ k. rw (d.2.stands k) (grade k (eqb k lane));
-    owes = λ k. rw (d.2.stands k) (owe k (eqb k lane) (gives (Ok e)) gm (λ x. sym (inv.owes k) ∙ ap (λ st. same st Owed) (ap (standing b) (eqb-true k lane x) ∙ unfilled)));
+    graded = λ k. grind (arith, nat_tests, d.2.stands k, inv.graded k, grade_placed (line_weight table line).first.value, count_in_pair table line);
+    owes = λ k. grind (arith, nat_tests, d.2.stands k, inv.owes k, unfilled, gm, placed_owed (line_weight table line).first.value);
     slips = omega (arith, inv.slips, tally, ap {B = ℕ} (λ x. cond x 1 0) gm, ap {B = ℕ} (λ st. cond (more st) 1 0) unfilled);
     due_all = ((filled b lane, told lane, sym d.0), inv.due_all);
   }
@@ -78,20 +74,10 @@ module _ {number : ℕ} {h : List Event} {b : Sheet} (inv : Kept number h b) whe
       unfilled : standing b lane ≡ Unfilled
       unfilled = unfilled_is (standing b lane) ok.empty
 
-      grade : (k : ℕ) (x : Bool) → Grade (cond x (placed (line_weight table line).first.value) (standing b k)) (count_at (cond x (Some (record { symbols = line; pattern = tree table })) (line_of h k)))
-      grade k true = subst (λ n. Grade (placed (line_weight table line).first.value) n) (count_in_pair table line) (grade_placed (line_weight table line).first.value)
-      grade k false = inv.graded k
-
-      owe : (k : ℕ) (x g : Bool) → g ≡ more (placed (line_weight table line).first.value) → (x ≡ true → owed_in h k ≡ false) → same (cond x (placed (line_weight table line).first.value) (standing b k)) Owed ≡ cond (g && x) true (owed_in h k)
-      owe k true true gm f = placed_owed (line_weight table line).first.value ∙ sym gm
-      owe k true false gm f = placed_owed (line_weight table line).first.value ∙ sym gm ∙ sym (f refl)
-      owe k false true gm f = inv.owes k
-      owe k false false gm f = inv.owes k
-
       tally : picked (λ k. more (standing s k)) 16 + cond (more (standing b lane)) 1 0 ≡ picked (λ k. more (standing b k)) 16 + cond (more (placed (line_weight table line).first.value)) 1 0
       tally =
           picked_put (λ k. more (standing b k)) (λ k. more (standing s k)) lane (more (placed (line_weight table line).first.value))
-          (λ k. ap more (d.2.stands k) ∙ more_cond (eqb k lane) _ _) 16 (omega (arith, ok.high))
+          (λ k. grind (arith, nat_tests, d.2.stands k)) 16 (omega (arith, ok.high))
 
   refused_kept : {s : Sheet} (lane : ℕ) (line : List ℕ) (table : Table) (room : ℕ) (f : SheetFault) → Entered lane line table room (Err f) b s → Kept number (enter lane line table room (Err f) ∷ h) s
   refused_kept {s} lane line table room f d = subst (λ x. Kept number (enter lane line table room (Err f) ∷ h) x) (sym d.2) (record {
