@@ -1,5 +1,5 @@
 -- A meet's patterns, and that only one thing can be written by them. Assumes nothing.
-use Rattle.std.proofs.Common.{◌≡◌, ℕ, ◌⊎◌, List, [], length, Ok, Err, sym, ap, ◌∙◌, inl, inr, arith}
+use Rattle.std.proofs.Common.{◌≡◌, ℕ, ◌⊎◌, List, [], length, Ok, Err, sym, ap, ◌∙◌, inl, inr}
 use Rattle.lines.specs.Lines.{lines}
 use Rattle.table.specs.Content as tables
 use Rattle.table.specs.Content.{content}
@@ -19,8 +19,8 @@ same_written line club results x y (Ok n, h, d) (Ok m, k, e) =
     ∙ ap (λ q. by_club (tree q) results d.0) (unambiguous line h.0 k.0 h.1.1 k.1.1)
     ∙ ap (by_club (tree k.0) results) (one_answer club 512 d.0 e.0 d.1 e.1)
     ∙ sym e.2
-same_written line club results x y (Ok n, h, d) (Err g, k, e) = absurd (let p = one_answer line 512 (Ok n) (Err g) h k in let z : ◌≡◌ {A = ℕ} 0 1 = cc in omega arith)
-same_written line club results x y (Err f, h, d) (Ok m, k, e) = absurd (let p = one_answer line 512 (Err f) (Ok m) h k in let z : ◌≡◌ {A = ℕ} 0 1 = cc in omega arith)
+same_written line club results x y (Ok n, h, d) (Err g, k, e) = let p = one_answer line 512 (Ok n) (Err g) h k in cc
+same_written line club results x y (Err f, h, d) (Ok m, k, e) = let p = one_answer line 512 (Err f) (Ok m) h k in cc
 same_written line club results x y (Err f, h, d) (Err g, k, e) =
     let p = one_answer line 512 (Err f) (Err g) h k in
     let fault : f ≡ g = cc in

@@ -1,4 +1,4 @@
-pub mod Parting
+pub mod Padding
 pub mod Settling
 pub mod Rowing
 pub mod Running

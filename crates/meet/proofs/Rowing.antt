@@ -1,105 +1,40 @@
--- One line's row, and the lanes after it. Assumes nothing.
-use Rattle.std.proofs.Common.{◌≡◌, ℕ, ◌≤◌, Bool, true, false, cond, not, ◌&&◌, ◌||◌, eqb, leb, List, length, is_some, IfOk, Some, None, Ok, Err, string_bytes, Option, Result, String, sym, refl, ap, ◌∙◌, arith}
-use Rattle.std.specs.declared.alloc.AllocError.{AllocError}
-use Rattle.std.specs.declared.alloc.Global.{Global}
-use Rattle.std.proofs.lemmas.Result.{IfOk-weaker}
-use Rattle.std.proofs.lemmas.Bool.{cond-true, eq-eqb, eqb-true, le-leb}
+-- The lanes that are filled after a line. Assumes nothing.
+use Rattle.std.proofs.Common.{◌≡◌, ℕ, Bool, true, false, cond, ◌&&◌, ◌||◌, eqb, leb, List, Some, None, Ok, Err, Option, Result, sym, refl, ap, ◌∙◌, subst}
+use Rattle.std.proofs.lemmas.Bool.{eqb-true}
 use Rattle.table.specs.declared.fault.Refusal.{Refusal}
 use Rattle.table.specs.declared.table.Table.{Table}
-use Rattle.table.specs.Content.{content, tree}
-use Rattle.table.specs.Kinds.{byte_number}
+use Rattle.table.specs.Content.{tree}
 use Rattle.table.specs.Rules.{or_else}
 use Rattle.sheet.specs.declared.fault.SheetFault.{SheetFault}
 use Rattle.sheet.specs.declared.sheet.Sheet.{Sheet}
 use Rattle.sheet.specs.Calls.{filled}
-use Rattle.sheet.specs.Closes.{is_owed}
-use Rattle.sheet.specs.Faults.{sheet_refusal}
-use Rattle.sheet.specs.Lanes.{NoneOf}
-use Rattle.sheet.specs.Refusals.{entry_refusal, filled_refusal, lane_refusal, line_refusal, room_refusal, session_judged}
-use Rattle.sheet.specs.Weighing.{line_weight, needed}
-use Rattle.meet.specs.Meet.{by_refusal, filled_with, line_row, readings_of, refusal}
+use Rattle.meet.specs.Meet.{filled_with}
 use Rattle.meet.specs.Parts.{lane_of, text_of}
-use Rattle.meet.specs.Rows.{row}
-use Rattle.meet.specs.Settled.{Settled, answer_row}
-
--- a byte table with room enough is not refused by the session
-session_accepts : (t : Table) (room : ℕ) → (content t).kind ≡ byte_number → needed t ≤ room → session_judged t room ≡ None
-session_accepts t room k n =
-    ap (λ o. or_else o (room_refusal (needed t) room)) (cond-true (eqb (content t).kind byte_number) None _ (eq-eqb (content t).kind byte_number k))
-    ∙ cond-true (leb (needed t) room) None _ (le-leb (needed t) room n)
-
-after_session : Bool → ℕ → List ℕ → Option Refusal
-after_session f lane text = or_else (lane_refusal lane) (or_else (line_refusal (length text)) (filled_refusal f lane))
-
--- so what refuses a line is told by lane, text and filled lanes
-line_refused : (line : List ℕ) (t : Table) (room : ℕ) (f : Bool) (lane : ℕ) (text : List ℕ) → (content t).kind ≡ byte_number → needed t ≤ room → lane ≡ lane_of line → text ≡ text_of line → entry_refusal f lane text t room ≡ refusal f line
-unfolding after_session
-line_refused line t room f lane text k n l x =
-    ap (λ o. or_else o (after_session f lane text)) (session_accepts t room k n)
-    ∙ ap (λ i. after_session f i text) l
-    ∙ ap (after_session f (lane_of line)) x
+use Rattle.meet.specs.Settled.{Settled}
 
 -- a line that is not refused has a lane that is not filled
 not_filled : (a b : Option Refusal) (f : Bool) (r : Refusal) → or_else a (or_else b (cond f (Some r) None)) ≡ None → f ≡ false
-not_filled (Some a) b f r e = absurd (let z : ◌≡◌ {A = ℕ} 0 1 = cc in omega arith)
-not_filled None (Some b) f r e = absurd (let z : ◌≡◌ {A = ℕ} 0 1 = cc in omega arith)
-not_filled None None true r e = absurd (let z : ◌≡◌ {A = ℕ} 0 1 = cc in omega arith)
+not_filled (Some a) b f r e = cc
+not_filled None (Some b) f r e = cc
+not_filled None None true r e = cc
 not_filled None None false r e = refl
 
-module _ (line : List ℕ) (t : Table) (room : ℕ) (lane : ℕ) (text : List ℕ) (b s : Sheet) (kind : (content t).kind ≡ byte_number) (fits : needed t ≤ room) (l : lane ≡ lane_of line) (x : text ≡ text_of line) where
-  same_refusal : entry_refusal (filled b lane) lane text t room ≡ refusal (filled b (lane_of line)) line
-  same_refusal = line_refused line t room (filled b lane) lane text kind fits l x ∙ ap (λ i. refusal (filled b i) line) l
+or_none : (y z : Bool) → z ≡ false → y ≡ (y || z)
+or_none true z e = refl
+or_none false z e = sym e
 
-  same_count : (line_weight t text).first.value ≡ readings_of (tree t) line
-  same_count = ap (λ w. (line_weight t w).first.value) x
-
-  -- the row of the answer is the line's row
-  row_is : (a : Result ℕ SheetFault) (number : ℕ) → Settled lane text t room a b s → answer_row number lane a ≡ line_row (tree t) number (filled b (lane_of line)) line
-  row_is (Ok n) number d = ap (λ i. row i n) l ∙ ap (row (lane_of line)) (d.1 ∙ same_count) ∙ sym (ap (by_refusal number (lane_of line) (readings_of (tree t) line)) (sym same_refusal ∙ d.0))
-  row_is (Err f) number d = sym (ap (by_refusal number (lane_of line) (readings_of (tree t) line)) (sym same_refusal ∙ d.0))
-
-  pub answer_written : (a : Result ℕ SheetFault) (number : ℕ) (r : Result (String Global) AllocError) → Settled lane text t room a b s → IfOk r (λ y. string_bytes y ≡ answer_row number lane a) → IfOk r (λ y. string_bytes y ≡ line_row (tree t) number (filled b (lane_of line)) line)
-  answer_written a number r d m = IfOk-weaker r _ _ (λ y e. e ∙ row_is a number d) m
-
-  -- a line that was entered
-  lanes_accepted : (n : ℕ) → Settled lane text t room (Ok n) b s → (k : ℕ) → filled s k ≡ filled_with (tree t) line (filled b) k
-  lanes_accepted n d k =
-      d.2 k
-      ∙ ap (λ i. cond (eqb k i) (leb 1 n) (filled b k)) l
-      ∙ by (eqb k (lane_of line)) refl
-      ∙ ap (λ i. (eqb k (lane_of line) && (true && leb 1 i)) || filled b k) (d.1 ∙ same_count)
-      ∙ sym (ap (λ o. (eqb k (lane_of line) && (not (is_some o) && leb 1 (readings_of (tree t) line))) || filled b k) accepted)
+module _ (line : List ℕ) (t : Table) (b s : Sheet) where
+  lanes_after : (a : Result ℕ SheetFault) → Settled (lane_of line) (text_of line) t a b s → (k : ℕ) → filled s k ≡ filled_with (tree t) line (filled b) k
+  lanes_after (Ok n) d k = d.2 k ∙ rw (d.0, ← d.1) (by (eqb k (lane_of line)) refl)
     where
-      accepted : refusal (filled b (lane_of line)) line ≡ None
-      accepted = sym same_refusal ∙ d.0
-
-      empty : filled b (lane_of line) ≡ false
-      empty = not_filled (lane_refusal (lane_of line)) (line_refusal (length (text_of line))) (filled b (lane_of line)) (sheet_refusal 21 (lane_of line)) accepted
-
-      or_none : (y z : Bool) → z ≡ false → y ≡ (y || z)
-      or_none true z e = refl
-      or_none false z e = sym e
-
       by : (v : Bool) → eqb k (lane_of line) ≡ v → cond v (leb 1 n) (filled b k) ≡ ((v && (true && leb 1 n)) || filled b k)
-      by true e = or_none (leb 1 n) (filled b k) (ap (filled b) (eqb-true k (lane_of line) e) ∙ empty)
+      by true e = or_none (leb 1 n) (filled b k) (ap (filled b) (eqb-true k (lane_of line) e) ∙ not_filled _ _ _ _ d.0)
       by false e = refl
-
-  -- a line that was refused
-  lanes_refused : (f : SheetFault) → Settled lane text t room (Err f) b s → (k : ℕ) → filled s k ≡ filled_with (tree t) line (filled b) k
-  lanes_refused f d k =
-      d.1 k
-      ∙ by (eqb k (lane_of line))
-      ∙ sym (ap (λ o. (eqb k (lane_of line) && (not (is_some o) && leb 1 (readings_of (tree t) line))) || filled b k) (sym same_refusal ∙ d.0))
+  lanes_after (Err f) d k = d.1 k ∙ rw d.0 (by (eqb k (lane_of line)))
     where
       by : (v : Bool) → filled b k ≡ ((v && false) || filled b k)
       by true = refl
       by false = refl
 
-  -- the lanes that are filled after the answer
-  pub answer_lanes : (a : Result ℕ SheetFault) → Settled lane text t room a b s → (k : ℕ) → filled s k ≡ filled_with (tree t) line (filled b) k
-  answer_lanes (Ok n) d = lanes_accepted n d
-  answer_lanes (Err f) d = lanes_refused f d
-
-  pub answer_settled : (a : Result ℕ SheetFault) → Settled lane text t room a b s → NoneOf (is_owed s)
-  answer_settled (Ok n) d = d.3
-  answer_settled (Err f) d = d.2
+  pub answer_lanes : (lane : ℕ) (text : List ℕ) → lane ≡ lane_of line → text ≡ text_of line → (a : Result ℕ SheetFault) → Settled lane text t a b s → (k : ℕ) → filled s k ≡ filled_with (tree t) line (filled b) k
+  answer_lanes lane text l x a d = lanes_after a (subst (λ w. Settled (lane_of line) w t a b s) x (subst (λ i. Settled i text t a b s) l d))

@@ -4,10 +4,9 @@ use Rattle.scale.specs.Counts.{count_ops}
 use Rattle.scale.specs.Pairs.{pair_ops}
 use Rattle.scale.specs.Prices.{price_ops}
 use Rattle.readings.specs.Weights.{weight}
-use Rattle.sheet.specs.Refusals.{filled_refusal, lane_refusal, line_refusal}
+use Rattle.sheet.specs.Refusals.{own_refusal}
 use Rattle.table.specs.declared.fault.Refusal.{Refusal}
 use Rattle.table.specs.Kinds.{byte_passing}
-use Rattle.table.specs.Rules.{or_else}
 use Rattle.table.specs.Tree.{Tree}
 use Rattle.meet.specs.Parts.{lane_of, text_of}
 use Rattle.meet.specs.Rows.{fault_row, row}
@@ -18,10 +17,7 @@ readings_of p line = (weight (pair_ops count_ops price_ops) byte_passing p (text
 
 -- what refuses a line, its lane being filled or not: a lane that is none, a text that is too long, a lane that is filled
 abbrev pub refusal : Bool → List ℕ → Option Refusal
-refusal filled line =
-    or_else (lane_refusal (lane_of line))
-    (or_else (line_refusal (length (text_of line)))
-    (filled_refusal filled (lane_of line)))
+refusal filled line = own_refusal filled (lane_of line) (text_of line)
 
 -- a line that is not refused fills its lane where it has a reading
 abbrev pub fills : Tree → Bool → List ℕ → Bool

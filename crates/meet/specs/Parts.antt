@@ -1,8 +1,6 @@
 -- A result line's lane and text. Assumes nothing.
-use Rattle.std.specs.Prelude.{ℕ, ◌+◌, ◌-◌, ◌*◌, Bool, cond, ◌&&◌, List, [], ◌∷◌, Some, None, Option, ◌==◌, nat_le}
-
-abbrev pub digit : ℕ → Bool
-digit b = nat_le 48 b && nat_le b 57
+use Rattle.std.specs.Prelude.{ℕ, ◌+◌, ◌-◌, ◌*◌, cond, ◌&&◌, List, [], ◌∷◌, Some, None, Option, ◌==◌}
+use Rattle.std.specs.Char.{is_ascii_digit}
 
 -- what two digits write
 abbrev pub number : ℕ → ℕ → ℕ
@@ -13,7 +11,7 @@ abbrev pub parted : List ℕ → Option (ℕ × List ℕ)
 parted [] = None
 parted (a ∷ []) = None
 parted (a ∷ b ∷ []) = None
-parted (a ∷ b ∷ c ∷ text) = cond (digit a && (digit b && c == 32)) (Some (number a b, text)) None
+parted (a ∷ b ∷ c ∷ text) = cond (is_ascii_digit a && (is_ascii_digit b && c == 32)) (Some (number a b, text)) None
 
 -- another line has lane 0
 abbrev laned : List ℕ → Option (ℕ × List ℕ) → ℕ × List ℕ

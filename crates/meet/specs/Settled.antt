@@ -6,10 +6,8 @@ use Rattle.sheet.specs.declared.fault.SheetFault.{SheetFault}
 use Rattle.sheet.specs.declared.sheet.Sheet.{Sheet}
 use Rattle.sheet.specs.declared.standing.Standing.TheVariants.{Struck}
 use Rattle.sheet.specs.Calls.{Moved, filled, matches}
-use Rattle.sheet.specs.Closes.{is_owed}
 use Rattle.sheet.specs.Faults.{refusal_of}
-use Rattle.sheet.specs.Lanes.{NoneOf}
-use Rattle.sheet.specs.Refusals.{entry_refusal}
+use Rattle.sheet.specs.Refusals.{own_refusal}
 use Rattle.sheet.specs.Weighing.{line_weight}
 use Rattle.table.specs.declared.table.Table.{Table}
 use Rattle.meet.specs.Rows.{fault_row, row}
@@ -27,16 +25,14 @@ StruckBy (Clean p) before after = after ≡ before
 StruckBy (Owed p slip) before after = Moved slip.lane Struck before after
 
 -- the number of readings, and a lane that is filled where there is one; or the refusal, and the lanes as they were
-abbrev pub Settled : ℕ → List ℕ → Table → ℕ → Result ℕ SheetFault → Sheet → Sheet → Type 0
-Settled lane line table room (Ok n) before after =
-    (entry_refusal (filled before lane) lane line table room ≡ None)
-    × (n ≡ (line_weight table line).first.value)
+abbrev pub Settled : ℕ → List ℕ → Table → Result ℕ SheetFault → Sheet → Sheet → Type 0
+Settled lane text table (Ok n) before after =
+    (own_refusal (filled before lane) lane text ≡ None)
+    × (n ≡ (line_weight table text).first.value)
     × ((k : ℕ) → filled after k ≡ cond (k == lane) (nat_le 1 n) (filled before k))
-    × NoneOf (is_owed after)
-Settled lane line table room (Err f) before after =
-    (entry_refusal (filled before lane) lane line table room ≡ Some (refusal_of f))
+Settled lane text table (Err f) before after =
+    (own_refusal (filled before lane) lane text ≡ Some (refusal_of f))
     × ((k : ℕ) → filled after k ≡ filled before k)
-    × NoneOf (is_owed after)
 
 -- the row of such an answer
 abbrev pub answer_row : ℕ → ℕ → Result ℕ SheetFault → List ℕ

@@ -1,7 +1,7 @@
 // A meet: its patterns and result lines, and the row that is written for each line.
 #![tactic(auto)]
 
-mod entering;
+mod desk;
 mod listing;
 mod parsing;
 mod patterns;

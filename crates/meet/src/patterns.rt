@@ -16,29 +16,14 @@ pub(crate) struct Tables {
 pub(crate) fn tables_of(patterns: &[u8]) -> Result<Tables, TextFault>
     ensures { TablesBy (pattern_text patterns.now 0) (pattern_text patterns.now 1) result }
 {
-    let line = table_of(line_text(patterns))?;
-    let club = table_of(club_text(patterns))?;
+    let line = table_of(pattern_text(patterns, 0))?;
+    let club = table_of(pattern_text(patterns, 1))?;
     Ok(Tables { line, club })
-}
-
-fn line_text(patterns: &[u8]) -> &[u8]
-    ensures { result.now ≡ pattern_text patterns.now 0 }
-{
-    pattern_text(patterns, 0)
-}
-
-fn club_text(patterns: &[u8]) -> &[u8]
-    ensures { result.now ≡ pattern_text patterns.now 1 }
-{
-    pattern_text(patterns, 1)
 }
 
 // The pattern of that line. A line that is not there counts as empty.
 fn pattern_text(patterns: &[u8], n: usize) -> &[u8]
     ensures { result.now ≡ pattern_text patterns.now n }
 {
-    match lines::nth_line(patterns, n) {
-        Some(text) => text,
-        None => &[],
-    }
+    lines::nth_line(patterns, n).unwrap_or(&[])
 }

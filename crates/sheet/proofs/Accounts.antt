@@ -1,11 +1,12 @@
 -- Every succession of calls leaves the sheet with its account. Assumes nothing.
 use Rattle.std.proofs.Common.{◌≡◌, ℕ, zero, suc, ◌+◌, List, refl, ◌∙◌, arith}
+use mathlib.Core.Logic.Iff
 use Rattle.sheet.specs.declared.sheet.Sheet.{Sheet}
 use Rattle.sheet.specs.Account.{Account, line_of}
 use Rattle.sheet.specs.History.{Event, Run}
 use Rattle.sheet.specs.Lanes.{has, picked}
 use Rattle.sheet.specs.Sheets.{standing}
-use Rattle.sheet.proofs.Grades.{also, equals, more, set_clean, owed_standing, set_more, set_one_of, grade_clean, grade_more, count_at, has_one, has_more}
+use Rattle.sheet.proofs.Grades.{equals, more, set_clean, owed_standing, set_more, set_one_of, grade_clean, grade_more, count_at, has_one, has_more}
 use Rattle.sheet.proofs.Kept.{run_kept}
 
 -- the lanes with more readings, counted set by set
@@ -19,11 +20,11 @@ account number h s r =
     record {
       slips = inv.slips ∙ by_sets s 16;
       clean = λ k.
-          also (equals (set_clean (has s.clean k) (has s.owed k) (has s.taken k) (has s.struck k)))
-          (also (grade_clean (standing s k) (count_at (line_of h k)) (inv.graded k)) (has_one (line_of h k)));
+          Iff.trans (equals (set_clean (has s.clean k) (has s.owed k) (has s.taken k) (has s.struck k)))
+          (Iff.trans (grade_clean (standing s k) (count_at (line_of h k)) (inv.graded k)) (has_one (line_of h k)));
       others = λ k.
-          also (set_one_of (has s.clean k) (has s.owed k) (has s.taken k) (has s.struck k) (s.apart k))
-          (also (grade_more (standing s k) (count_at (line_of h k)) (inv.graded k)) (has_more (line_of h k)));
+          Iff.trans (set_one_of (has s.clean k) (has s.owed k) (has s.taken k) (has s.struck k) (s.apart k))
+          (Iff.trans (grade_more (standing s k) (count_at (line_of h k)) (inv.graded k)) (has_more (line_of h k)));
       owed = λ k. owed_standing s k ∙ inv.owes k;
       refused = inv.due_all;
     }

@@ -42,10 +42,8 @@ two_in (x ∷ []) d h = absurd (omega arith)
 two_in (x ∷ y ∷ rs) d h = (x, y, inl refl, inr (inl refl), λ e. d.0 (inl (sym e)))
 
 in_two : (rs : List Reading) (r q : Reading) → In r rs → In q rs → (q ≡ r → ⊥) → 2 ≤ length rs
-in_two [] r q i j ne = absurd i
-in_two (x ∷ []) r q (inl e) (inl f) ne = absurd (ne (f ∙ sym e))
-in_two (x ∷ []) r q (inl e) (inr n) ne = absurd n
-in_two (x ∷ []) r q (inr n) j ne = absurd n
+in_two [] r q i j ne = grind arith
+in_two (x ∷ []) r q i j ne = grind arith
 in_two (x ∷ y ∷ rs) r q i j ne = omega arith
 
 -- a line's count

@@ -1,10 +1,10 @@
 -- Where a lane stands, by the sets that have it and by how many readings its line has. Assumes nothing.
-use Rattle.std.proofs.Common.{◌≡◌, ℕ, zero, suc, ◌+◌, ◌≤◌, Bool, true, false, cond, not, ◌⊎◌, Some, None, Option, sym, refl, ◌∙◌, inl, inr, arith}
-use Rattle.std.proofs.lemmas.Bool.{false≢true}
+use Rattle.std.proofs.Common.{◌≡◌, ◌↔◌, ℕ, ◌+◌, ◌≤◌, Bool, true, false, cond, not, ◌⊎◌, Some, None, Option, sym, ◌∙◌, arith}
+use Rattle.std.specs.Option.{IsSomeAnd}
 use Rattle.sheet.specs.declared.sheet.Sheet.{Sheet}
 use Rattle.sheet.specs.declared.standing.Standing.{Standing}
 use Rattle.sheet.specs.declared.standing.Standing.TheVariants.{Unfilled, Clean, Owed, Taken, Struck}
-use Rattle.sheet.specs.Account.{Line, Exactly, Has, SomeReading, OneReading, MoreReadings}
+use Rattle.sheet.specs.Account.{Line, SomeReading, OneReading, MoreReadings}
 use Rattle.sheet.specs.Entries.{placed}
 use Rattle.sheet.specs.Lanes.{has}
 use Rattle.sheet.specs.Sheets.{set_of, standing}
@@ -12,10 +12,7 @@ use Rattle.sheet.specs.Standings.{same}
 use Rattle.sheet.proofs.Counted.{count_of, counted_some, some_counted, counted_one, one_counted, counted_more, more_counted}
 use Rattle.sheet.proofs.Moves.{sets}
 
-pub also : {A B C : Type 0} → Exactly A B → Exactly B C → Exactly A C
-also p q = (λ a. q.0 (p.0 a), λ c. p.1 (q.1 c))
-
-pub equals : {a b : Bool} → a ≡ b → Exactly (a ≡ true) (b ≡ true)
+pub equals : {a b : Bool} → a ≡ b → ((a ≡ true) ↔ (b ≡ true))
 equals e = (λ h. sym e ∙ h, λ h. e ∙ h)
 
 -- owed, taken or struck
@@ -29,54 +26,20 @@ more Struck = true
 -- by the sets, of which one at most has the lane
 
 pub set_clean : (c o t s : Bool) → c ≡ same (set_of c o t s) Clean
-set_clean true o t s = refl
-set_clean false true t s = refl
-set_clean false false true s = refl
-set_clean false false false true = refl
-set_clean false false false false = refl
+set_clean c o t s = grind arith
 
 set_owed : (c o t s : Bool) → sets c o t s ≤ 1 → o ≡ same (set_of c o t s) Owed
-set_owed true true t s h = absurd (omega arith)
-set_owed true false t s h = refl
-set_owed false true t s h = refl
-set_owed false false true s h = refl
-set_owed false false false true h = refl
-set_owed false false false false h = refl
+set_owed c o t s h = grind arith
 
 pub owed_standing : (s : Sheet) (k : ℕ) → has s.owed k ≡ same (standing s k) Owed
 owed_standing s k = set_owed (has s.clean k) (has s.owed k) (has s.taken k) (has s.struck k) (s.apart k)
 
 pub set_more : (c o t s : Bool) → sets c o t s ≤ 1 → cond (more (set_of c o t s)) 1 0 ≡ cond t 1 0 + cond s 1 0 + cond o 1 0
-set_more true o t s h = omega arith
-set_more false true t s h = omega arith
-set_more false false true s h = omega arith
-set_more false false false true h = refl
-set_more false false false false h = refl
+set_more c o t s h = grind arith
 
 -- one of three is true where they add up to something
-pub set_one_of : (c o t s : Bool) → sets c o t s ≤ 1 → Exactly ((t ≡ true) ⊎ ((s ≡ true) ⊎ (o ≡ true))) (more (set_of c o t s) ≡ true)
-set_one_of c o t s h = (to c o t s h, from c o t s)
-  where
-    to : (c o t s : Bool) → sets c o t s ≤ 1 → ((t ≡ true) ⊎ ((s ≡ true) ⊎ (o ≡ true))) → more (set_of c o t s) ≡ true
-    to true true t s h x = absurd (omega arith)
-    to true false true s h x = absurd (omega arith)
-    to true false false true h x = absurd (omega arith)
-    to true false false false h (inl e) = e
-    to true false false false h (inr (inl e)) = e
-    to true false false false h (inr (inr e)) = e
-    to false true t s h x = refl
-    to false false true s h x = refl
-    to false false false true h x = refl
-    to false false false false h (inl e) = e
-    to false false false false h (inr (inl e)) = e
-    to false false false false h (inr (inr e)) = e
-
-    from : (c o t s : Bool) → more (set_of c o t s) ≡ true → (t ≡ true) ⊎ ((s ≡ true) ⊎ (o ≡ true))
-    from true o t s e = absurd (false≢true e)
-    from false true t s e = inr (inr refl)
-    from false false true s e = inl refl
-    from false false false true e = inr (inl refl)
-    from false false false false e = absurd (false≢true e)
+pub set_one_of : (c o t s : Bool) → sets c o t s ≤ 1 → (((t ≡ true) ⊎ ((s ≡ true) ⊎ (o ≡ true))) ↔ (more (set_of c o t s) ≡ true))
+set_one_of c o t s h = grind arith
 
 -- by the number of readings
 
@@ -88,30 +51,16 @@ Grade Taken n = 2 ≤ n
 Grade Struck n = 2 ≤ n
 
 pub grade_placed : (n : ℕ) → Grade (placed n) n
-grade_placed zero = refl
-grade_placed (suc zero) = refl
-grade_placed (suc (suc n)) = omega arith
+grade_placed n = grind arith
 
-pub grade_filled : (st : Standing) (n : ℕ) → Grade st n → Exactly (not (same st Unfilled) ≡ true) (1 ≤ n)
-grade_filled Unfilled n g = (λ e. absurd (false≢true e), λ h. absurd (omega arith))
-grade_filled Clean n g = (λ e. omega arith, λ h. refl)
-grade_filled Owed n g = (λ e. omega arith, λ h. refl)
-grade_filled Taken n g = (λ e. omega arith, λ h. refl)
-grade_filled Struck n g = (λ e. omega arith, λ h. refl)
+pub grade_filled : (st : Standing) (n : ℕ) → Grade st n → ((not (same st Unfilled) ≡ true) ↔ (1 ≤ n))
+grade_filled st n g = grind arith
 
-pub grade_clean : (st : Standing) (n : ℕ) → Grade st n → Exactly (same st Clean ≡ true) (n ≡ 1)
-grade_clean Unfilled n g = (λ e. absurd (false≢true e), λ h. absurd (omega arith))
-grade_clean Clean n g = (λ e. g, λ h. refl)
-grade_clean Owed n g = (λ e. absurd (false≢true e), λ h. absurd (omega arith))
-grade_clean Taken n g = (λ e. absurd (false≢true e), λ h. absurd (omega arith))
-grade_clean Struck n g = (λ e. absurd (false≢true e), λ h. absurd (omega arith))
+pub grade_clean : (st : Standing) (n : ℕ) → Grade st n → ((same st Clean ≡ true) ↔ (n ≡ 1))
+grade_clean st n g = grind arith
 
-pub grade_more : (st : Standing) (n : ℕ) → Grade st n → Exactly (more st ≡ true) (2 ≤ n)
-grade_more Unfilled n g = (λ e. absurd (false≢true e), λ h. absurd (omega arith))
-grade_more Clean n g = (λ e. absurd (false≢true e), λ h. absurd (omega arith))
-grade_more Owed n g = (λ e. g, λ h. refl)
-grade_more Taken n g = (λ e. g, λ h. refl)
-grade_more Struck n g = (λ e. g, λ h. refl)
+pub grade_more : (st : Standing) (n : ℕ) → Grade st n → ((more st ≡ true) ↔ (2 ≤ n))
+grade_more st n g = grind arith
 
 -- by the line
 
@@ -119,14 +68,14 @@ abbrev pub count_at : Option Line → ℕ
 count_at None = 0
 count_at (Some l) = count_of l
 
-pub has_some : (o : Option Line) → Exactly (1 ≤ count_at o) (Has SomeReading o)
+pub has_some : (o : Option Line) → ((1 ≤ count_at o) ↔ IsSomeAnd o SomeReading)
 has_some None = (λ h. omega arith, λ h. absurd h)
 has_some (Some l) = (counted_some l, some_counted l)
 
-pub has_one : (o : Option Line) → Exactly (count_at o ≡ 1) (Has OneReading o)
+pub has_one : (o : Option Line) → ((count_at o ≡ 1) ↔ IsSomeAnd o OneReading)
 has_one None = (λ h. omega arith, λ h. absurd h)
 has_one (Some l) = (counted_one l, one_counted l)
 
-pub has_more : (o : Option Line) → Exactly (2 ≤ count_at o) (Has MoreReadings o)
+pub has_more : (o : Option Line) → ((2 ≤ count_at o) ↔ IsSomeAnd o MoreReadings)
 has_more None = (λ h. omega arith, λ h. absurd h)
 has_more (Some l) = (counted_more l, more_counted l)

@@ -1,7 +1,9 @@
 -- What holds of a sheet after every succession of calls. Assumes nothing.
-use Rattle.std.proofs.Common.{◌≡◌, ℕ, ◌+◌, ◌≤◌, Bool, true, false, cond, not, ◌&&◌, eqb, List, [], ◌∷◌, Some, None, Ok, Err, sym, refl, ap, ◌∙◌, subst, arith}
-use Rattle.std.proofs.lemmas.Bool.{eqb-true, and_parts, false≢true}
-use Rattle.table.specs.Content.{tree}
+use Rattle.std.proofs.Common.{◌≡◌, ◌↔◌, ℕ, ◌+◌, true, false, cond, not, ◌&&◌, eqb, List, [], ◌∷◌, Some, None, Ok, Err, sym, refl, ap, ◌∙◌, subst, arith}
+use mathlib.Core.Logic.Iff
+use Rattle.std.specs.Option.{IsSomeAnd}
+use Rattle.std.proofs.lemmas.Bool.{and_parts}
+use Rattle.std.proofs.lemmas.Bool.Decides.{nat_tests}
 use Rattle.table.specs.declared.table.Table.{Table}
 use Rattle.sheet.specs.declared.entry.Entry.{Entry}
 use Rattle.sheet.specs.declared.fault.SheetFault.{SheetFault}
@@ -9,8 +11,8 @@ use Rattle.sheet.specs.declared.sheet.Sheet.{Sheet}
 use Rattle.sheet.specs.declared.slip.Returned.{Returned}
 use Rattle.sheet.specs.declared.slip.Slip.{Slip}
 use Rattle.sheet.specs.declared.standing.Standing.{Standing}
-use Rattle.sheet.specs.declared.standing.Standing.TheVariants.{Unfilled, Clean, Owed, Taken, Struck}
-use Rattle.sheet.specs.Account.{Exactly, Has, SomeReading, line_of, handed, gives, owed_in, AllDue, slip_refusal}
+use Rattle.sheet.specs.declared.standing.Standing.TheVariants.{Unfilled, Owed}
+use Rattle.sheet.specs.Account.{SomeReading, line_of, handed, gives, owed_in, AllDue, slip_refusal}
 use Rattle.sheet.specs.Calls.{Opened, Moved, Entered, Ruled, filled, matches}
 use Rattle.sheet.specs.Entries.{placed}
 use Rattle.sheet.specs.Faults.{refusal_of, sheet_refusal}
@@ -22,7 +24,7 @@ use Rattle.sheet.specs.Weighing.{line_weight}
 use Rattle.sheet.proofs.Accepts.{Accepted, accepted}
 use Rattle.sheet.proofs.Answered.{placed_owed, gives_more, becomes_more, becomes_settled, becomes_grade}
 use Rattle.sheet.proofs.Counted.{count_in_pair}
-use Rattle.sheet.proofs.Grades.{also, more, Grade, grade_placed, grade_filled, count_at, has_some}
+use Rattle.sheet.proofs.Grades.{more, Grade, grade_placed, grade_filled, count_at, has_some}
 use Rattle.sheet.proofs.Tallies.{picked_same, picked_put}
 
 pub record Kept (number : ℕ) (h : List Event) (s : Sheet) : Type 0 where
@@ -35,18 +37,10 @@ pub record Kept (number : ℕ) (h : List Event) (s : Sheet) : Type 0 where
 -- standings are told apart by their ranks
 
 unfilled_is : (st : Standing) → not (same st Unfilled) ≡ false → st ≡ Unfilled
-unfilled_is Unfilled e = refl
-unfilled_is Clean e = absurd (false≢true (sym e))
-unfilled_is Owed e = absurd (false≢true (sym e))
-unfilled_is Taken e = absurd (false≢true (sym e))
-unfilled_is Struck e = absurd (false≢true (sym e))
+unfilled_is st e = grind arith
 
 owed_is : (st : Standing) → same st Owed ≡ true → st ≡ Owed
-owed_is Unfilled e = absurd (false≢true e)
-owed_is Clean e = absurd (false≢true e)
-owed_is Owed e = refl
-owed_is Taken e = absurd (false≢true e)
-owed_is Struck e = absurd (false≢true e)
+owed_is st e = grind arith
 
 at_open : {number : ℕ} {s : Sheet} → Opened number s → Kept number [] s
 at_open {s} o = record {
@@ -57,20 +51,16 @@ at_open {s} o = record {
   due_all = tt;
 }
 
-more_cond : (x : Bool) (p q : Standing) → more (cond x p q) ≡ cond x (more p) (more q)
-more_cond true p q = refl
-more_cond false p q = refl
-
 module _ {number : ℕ} {h : List Event} {b : Sheet} (inv : Kept number h b) where
   -- a lane that was filled is known to be so from its line
-  told : (lane : ℕ) → Exactly (filled b lane ≡ true) (Has SomeReading (line_of h lane))
-  told lane = also (grade_filled (standing b lane) (count_at (line_of h lane)) (inv.graded lane)) (has_some (line_of h lane))
+  told : (lane : ℕ) → ((filled b lane ≡ true) ↔ IsSomeAnd (line_of h lane) SomeReading)
+  told lane = Iff.trans (grade_filled (standing b lane) (count_at (line_of h lane)) (inv.graded lane)) (has_some (line_of h lane))
 
   entry_kept : {s : Sheet} (lane : ℕ) (line : List ℕ) (table : Table) (room : ℕ) (e : Entry) → Entered lane line table room (Ok e) b s → Kept number (enter lane line table room (Ok e) ∷ h) s
   entry_kept {s} lane line table room e d = record {
     numbered = d.2.numbered ∙ inv.numbered;
-    graded = λ k. rw (d.2.stands k) (grade k (eqb k lane));
-    owes = λ k. rw (d.2.stands k) (owe k (eqb k lane) (gives (Ok e)) gm (λ x. sym (inv.owes k) ∙ ap (λ st. same st Owed) (ap (standing b) (eqb-true k lane x) ∙ unfilled)));
+    graded = λ k. grind (arith, nat_tests, d.2.stands k, inv.graded k, grade_placed (line_weight table line).first.value, count_in_pair table line);
+    owes = λ k. grind (arith, nat_tests, d.2.stands k, inv.owes k, unfilled, gm, placed_owed (line_weight table line).first.value);
     slips = omega (arith, inv.slips, tally, ap {B = ℕ} (λ x. cond x 1 0) gm, ap {B = ℕ} (λ st. cond (more st) 1 0) unfilled);
     due_all = ((filled b lane, told lane, sym d.0), inv.due_all);
   }
@@ -84,20 +74,10 @@ module _ {number : ℕ} {h : List Event} {b : Sheet} (inv : Kept number h b) whe
       unfilled : standing b lane ≡ Unfilled
       unfilled = unfilled_is (standing b lane) ok.empty
 
-      grade : (k : ℕ) (x : Bool) → Grade (cond x (placed (line_weight table line).first.value) (standing b k)) (count_at (cond x (Some (record { symbols = line; pattern = tree table })) (line_of h k)))
-      grade k true = subst (λ n. Grade (placed (line_weight table line).first.value) n) (count_in_pair table line) (grade_placed (line_weight table line).first.value)
-      grade k false = inv.graded k
-
-      owe : (k : ℕ) (x g : Bool) → g ≡ more (placed (line_weight table line).first.value) → (x ≡ true → owed_in h k ≡ false) → same (cond x (placed (line_weight table line).first.value) (standing b k)) Owed ≡ cond (g && x) true (owed_in h k)
-      owe k true true gm f = placed_owed (line_weight table line).first.value ∙ sym gm
-      owe k true false gm f = placed_owed (line_weight table line).first.value ∙ sym gm ∙ sym (f refl)
-      owe k false true gm f = inv.owes k
-      owe k false false gm f = inv.owes k
-
       tally : picked (λ k. more (standing s k)) 16 + cond (more (standing b lane)) 1 0 ≡ picked (λ k. more (standing b k)) 16 + cond (more (placed (line_weight table line).first.value)) 1 0
       tally =
           picked_put (λ k. more (standing b k)) (λ k. more (standing s k)) lane (more (placed (line_weight table line).first.value))
-          (λ k. ap more (d.2.stands k) ∙ more_cond (eqb k lane) _ _) 16 (omega (arith, ok.high))
+          (λ k. grind (arith, nat_tests, d.2.stands k)) 16 (omega (arith, ok.high))
 
   refused_kept : {s : Sheet} (lane : ℕ) (line : List ℕ) (table : Table) (room : ℕ) (f : SheetFault) → Entered lane line table room (Err f) b s → Kept number (enter lane line table room (Err f) ∷ h) s
   refused_kept {s} lane line table room f d = subst (λ x. Kept number (enter lane line table room (Err f) ∷ h) x) (sym d.2) (record {
@@ -113,31 +93,18 @@ module _ {number : ℕ} {h : List Event} {b : Sheet} (inv : Kept number h b) whe
   matched p = λ i. eqb p.sheet (inv.numbered i) && inv.owes p.lane i
 
   -- a ruling that was given moves the lane on among those with more readings
-  module _ {s : Sheet} (to : Standing) (p : Slip) (high : more to ≡ true) (settled : same to Owed ≡ false) (grade : (n : ℕ) → 2 ≤ n → Grade to n)
-      (m : matches b p ≡ true) (mv : Moved p.lane to b s) where
+  module _ {s : Sheet} (r : Ruling) (p : Slip) (m : matches b p ≡ true) (mv : Moved p.lane (becomes r) b s) where
     was_owed : standing b p.lane ≡ Owed
     was_owed = owed_is (standing b p.lane) (and_parts (eqb p.sheet b.number) _ m).1
 
     ruled_graded : (k : ℕ) → Grade (standing s k) (count_at (line_of h k))
-    ruled_graded k = rw (mv.stands k) (by (eqb k p.lane) (λ e. eqb-true k p.lane e))
-      where
-        by : (x : Bool) → (x ≡ true → k ≡ p.lane) → Grade (cond x to (standing b k)) (count_at (line_of h k))
-        by true e = grade (count_at (line_of h k)) (subst (λ st. Grade st (count_at (line_of h k))) (ap (standing b) (e refl) ∙ was_owed) (inv.graded k))
-        by false e = inv.graded k
+    ruled_graded k = grind (arith, nat_tests, mv.stands k, inv.graded k, was_owed, becomes_grade r)
 
     ruled_owes : (k : ℕ) → same (standing s k) Owed ≡ cond (eqb k p.lane) false (owed_in h k)
-    ruled_owes k = rw (mv.stands k) (by (eqb k p.lane))
-      where
-        by : (x : Bool) → same (cond x to (standing b k)) Owed ≡ cond x false (owed_in h k)
-        by true = settled
-        by false = inv.owes k
+    ruled_owes k = grind (arith, nat_tests, mv.stands k, inv.owes k, becomes_settled r)
 
     ruled_slips : handed h ≡ picked (λ k. more (standing s k)) 16
-    ruled_slips = inv.slips ∙ sym (picked_same (λ k. more (standing b k)) (λ k. more (standing s k)) (λ k. ap more (mv.stands k) ∙ by k (eqb k p.lane) (λ e. eqb-true k p.lane e)) 16)
-      where
-        by : (k : ℕ) (x : Bool) → (x ≡ true → k ≡ p.lane) → more (cond x to (standing b k)) ≡ more (standing b k)
-        by k true e = high ∙ sym (ap more (ap (standing b) (e refl) ∙ was_owed))
-        by k false e = refl
+    ruled_slips = inv.slips ∙ sym (picked_same (λ k. more (standing b k)) (λ k. more (standing s k)) (λ k. grind (arith, nat_tests, mv.stands k, was_owed, becomes_more r)) 16)
 
     ruled_due : None ≡ slip_refusal (eqb p.sheet number && owed_in h p.lane) p.lane
     ruled_due = sym (ap (λ x. slip_refusal x p.lane) (sym (matched p) ∙ m))
@@ -147,17 +114,13 @@ module _ {number : ℕ} {h : List Event} {b : Sheet} (inv : Kept number h b) whe
   back_due p r m f = ap Some f ∙ sym (ap (λ x. slip_refusal x p.lane) (sym (matched p) ∙ m))
 
   given_kept : {s : Sheet} (r : Ruling) (p : Slip) (u : Unit {0}) → Ruled (becomes r) p (Ok u) b s → Kept number (rule r p (Ok u) ∷ h) s
-  given_kept r p u d =
-      let high = becomes_more r in
-      let settled = becomes_settled r in
-      let grade = becomes_grade r in
-      record {
-        numbered = d.1.numbered ∙ inv.numbered;
-        graded = ruled_graded (becomes r) p high settled grade d.0 d.1;
-        owes = ruled_owes (becomes r) p high settled grade d.0 d.1;
-        slips = ruled_slips (becomes r) p high settled grade d.0 d.1;
-        due_all = (ruled_due (becomes r) p high settled grade d.0 d.1, inv.due_all);
-      }
+  given_kept r p u d = record {
+    numbered = d.1.numbered ∙ inv.numbered;
+    graded = ruled_graded r p d.0 d.1;
+    owes = ruled_owes r p d.0 d.1;
+    slips = ruled_slips r p d.0 d.1;
+    due_all = (ruled_due r p d.0 d.1, inv.due_all);
+  }
 
   back_kept : {s : Sheet} (r : Ruling) (p : Slip) (q : Returned) → Ruled (becomes r) p (Err q) b s → Kept number (rule r p (Err q) ∷ h) s
   back_kept r p q d = subst (λ x. Kept number (rule r p (Err q) ∷ h) x) (sym d.3) (record {

@@ -1,5 +1,7 @@
 -- What a sheet owes to its history: lines, readings, slips and refusals. Assumes nothing.
-use Rattle.std.specs.Prelude.{◌≡◌, ℕ, ◌+◌, Bool, true, false, cond, ◌&&◌, ◌⊎◌, List, [], ◌∷◌, is_ok, Some, None, Ok, Err, Option, Result, ◌==◌, ◌≢◌}
+use Rattle.std.specs.Prelude.{◌≡◌, ◌↔◌, ℕ, ◌+◌, Bool, true, false, cond, ◌&&◌, ◌⊎◌, List, [], ◌∷◌, is_ok, Some, None, Ok, Err, Option, Result, ◌==◌, ◌≢◌}
+use Rattle.std.specs.Option.{IsSomeAnd, option_map}
+use Rattle.std.specs.Result.{result_err}
 use Rattle.readings.specs.Readings.{Reading, Reads}
 use Rattle.table.specs.Content.{tree}
 use Rattle.table.specs.declared.fault.Refusal.{Refusal}
@@ -39,11 +41,6 @@ line_of (enter lane line table room (Ok e) ∷ h) k = cond (k == lane) (Some (re
 line_of (enter lane line table room (Err f) ∷ h) k = line_of h k
 line_of (rule r p a ∷ h) k = line_of h k
 
--- there is a line, and it is such
-abbrev pub Has : (Line → Type 0) → Option Line → Type 0
-Has P None = ⊥
-Has P (Some l) = P l
-
 -- the answer holds a slip
 abbrev pub gives : Result Entry SheetFault → Bool
 gives (Ok Unreadable) = false
@@ -63,13 +60,9 @@ owed_in [] k = false
 owed_in (enter lane line table room a ∷ h) k = cond (gives a && k == lane) true (owed_in h k)
 owed_in (rule r p a ∷ h) k = cond (is_ok a && k == p.lane) false (owed_in h k)
 
-abbrev pub Exactly : Type 0 → Type 0 → Type 0
-Exactly A B = (A → B) × (B → A)
-
 -- what the answer to a slip says of refusals
 abbrev pub ruled : Result (Unit {0}) Returned → Option Refusal
-ruled (Ok u) = None
-ruled (Err r) = Some (refusal_of r.fault)
+ruled a = option_map (λ r. refusal_of r.fault) (result_err a)
 
 -- a slip is refused exactly where its sheet number is another or its lane is not owed
 abbrev pub slip_refusal : Bool → ℕ → Option Refusal
@@ -77,7 +70,7 @@ slip_refusal matching lane = cond matching None (Some (sheet_refusal 22 lane))
 
 -- a call was refused exactly on its conditions, after what went before
 abbrev pub Due : ℕ → List Event → Event → Type 0
-Due number h (enter lane line table room a) = (filled : Bool) × Exactly (filled ≡ true) (Has SomeReading (line_of h lane)) × (answered a ≡ entry_refusal filled lane line table room)
+Due number h (enter lane line table room a) = (filled : Bool) × ((filled ≡ true) ↔ IsSomeAnd (line_of h lane) SomeReading) × (answered a ≡ entry_refusal filled lane line table room)
 Due number h (rule r p a) = ruled a ≡ slip_refusal (p.sheet == number && owed_in h p.lane) p.lane
 
 abbrev pub AllDue : ℕ → List Event → Type 0
@@ -89,9 +82,9 @@ pub record Account (number : ℕ) (h : List Event) (s : Sheet) : Type 0 where
   -- the slips handed out are as many as the lanes taken, struck and owed
   pub slips : handed h ≡ size s.taken + size s.struck + size s.owed
   -- a lane is clean exactly when it has a line with one reading
-  pub clean : (k : ℕ) → Exactly (has s.clean k ≡ true) (Has OneReading (line_of h k))
+  pub clean : (k : ℕ) → ((has s.clean k ≡ true) ↔ IsSomeAnd (line_of h k) OneReading)
   -- and in one of the other sets exactly when it has a line with more
-  pub others : (k : ℕ) → Exactly ((has s.taken k ≡ true) ⊎ ((has s.struck k ≡ true) ⊎ (has s.owed k ≡ true))) (Has MoreReadings (line_of h k))
+  pub others : (k : ℕ) → (((has s.taken k ≡ true) ⊎ ((has s.struck k ≡ true) ⊎ (has s.owed k ≡ true))) ↔ IsSomeAnd (line_of h k) MoreReadings)
   -- among those, owed by the history
   pub owed : (k : ℕ) → has s.owed k ≡ owed_in h k
   -- every call was refused exactly on its conditions

@@ -1,5 +1,6 @@
 -- What entering a line and ruling on a lane answer, and what they leave. Assumes nothing.
-use Rattle.std.specs.Prelude.{◌≡◌, ℕ, Bool, true, false, cond, not, ◌&&◌, List, Some, None, Ok, Err, Result, ◌==◌}
+use Rattle.std.specs.Prelude.{◌≡◌, ℕ, Bool, true, false, cond, not, ◌&&◌, List, Some, None, Ok, Err, Option, Result, ◌==◌}
+use Rattle.table.specs.declared.fault.Refusal.{Refusal}
 use Rattle.table.specs.declared.table.Table.{Table}
 use Rattle.sheet.specs.declared.entry.Entry.{Entry}
 use Rattle.sheet.specs.declared.fault.SheetFault.{SheetFault}
@@ -37,6 +38,11 @@ Beside lane LongLine = Unit {0}
 Beside lane (Filled l) = Unit {0}
 Beside lane (NoSuchSlip l) = Unit {0}
 Beside lane (LanesOwed l) = Unit {0}
+
+-- a lane is refused so, with the lane beside a session's fault, or it passes where nothing refuses it
+abbrev pub Judged : {A : Type 0} → ℕ → Option Refusal → Result A SheetFault → Type 0
+Judged lane refusal (Ok x) = refusal ≡ None
+Judged lane refusal (Err f) = (refusal ≡ Some (refusal_of f)) × Beside lane f
 
 -- entering a line by a table, with room for so many weights
 abbrev pub Entered : ℕ → List ℕ → Table → ℕ → Result Entry SheetFault → Sheet → Sheet → Type 0

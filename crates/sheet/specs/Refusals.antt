@@ -1,14 +1,13 @@
 -- When entering a line is refused, and by which number. Assumes nothing.
-use Rattle.std.specs.Prelude.{◌≡◌, ℕ, Bool, cond, ◌&&◌, List, length, Some, None, Ok, Err, Option, Result, ◌==◌, nat_le}
+use Rattle.std.specs.Prelude.{ℕ, Bool, cond, ◌&&◌, List, length, Some, None, Option, Result, ◌==◌, nat_le}
+use Rattle.std.specs.Option.{option_map}
+use Rattle.std.specs.Result.{result_err}
 use Rattle.table.specs.declared.fault.Refusal.{Refusal}
 use Rattle.table.specs.declared.table.Table.{Table}
 use Rattle.table.specs.Content.{content}
 use Rattle.table.specs.Kinds.{byte_number}
 use Rattle.table.specs.Rules.{or_else}
-use Rattle.session.specs.declared.fault.SessionFault.{SessionFault}
-use Rattle.session.specs.Faults as session
 use Rattle.session.specs.Faults.{most_symbols, session_refusal}
-use Rattle.sheet.specs.declared.fault.AtLane.{AtLane}
 use Rattle.sheet.specs.declared.fault.SheetFault.{SheetFault}
 use Rattle.sheet.specs.Faults.{refusal_of, sheet_refusal}
 use Rattle.sheet.specs.Weighing.{needed}
@@ -32,24 +31,17 @@ filled_refusal filled lane = cond filled (Some (sheet_refusal 21 lane)) None
 abbrev pub session_judged : Table → ℕ → Option Refusal
 session_judged table room = or_else (kind_refusal (content table).kind) (room_refusal (needed table) room)
 
+-- what the sheet itself refuses, the lowest number first; or nothing
+abbrev pub own_refusal : Bool → ℕ → List ℕ → Option Refusal
+own_refusal filled lane line =
+    or_else (lane_refusal lane)
+    (or_else (line_refusal (length line))
+    (filled_refusal filled lane))
+
 -- what entering is refused by, the lowest number first; or nothing
 abbrev pub entry_refusal : Bool → ℕ → List ℕ → Table → ℕ → Option Refusal
-entry_refusal filled lane line table room =
-    or_else (session_judged table room)
-    (or_else (lane_refusal lane)
-    (or_else (line_refusal (length line))
-    (filled_refusal filled lane)))
+entry_refusal filled lane line table room = or_else (session_judged table room) (own_refusal filled lane line)
 
 -- what an answer says of refusals
 abbrev pub answered : {A : Type 0} → Result A SheetFault → Option Refusal
-answered (Ok x) = None
-answered (Err f) = Some (refusal_of f)
-
-abbrev pub session_answered : {A : Type 0} → Result A SessionFault → Option Refusal
-session_answered (Ok x) = None
-session_answered (Err f) = Some (session.refusal_of f)
-
--- the same, with the lane beside the fault
-abbrev pub JudgedAtLane : {A : Type 0} → ℕ → Option Refusal → Result A AtLane → Type 0
-JudgedAtLane lane o (Ok x) = o ≡ None
-JudgedAtLane lane o (Err a) = (o ≡ Some (session.refusal_of a.fault)) × (a.lane ≡ lane)
+answered a = option_map refusal_of (result_err a)

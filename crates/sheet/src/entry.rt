@@ -3,6 +3,7 @@ ghost use Rattle.std.specs.Prelude.{◌≡◌};
 ghost use Rattle.sheet.specs.Entries.{due, outcome, placed};
 ghost use Rattle.sheet.specs.Weighing.{Consistent};
 
+use crate::lane::Lane;
 use crate::slip::Slip;
 use crate::standing::Standing;
 use scale::{Count, Pair, Price};
@@ -17,30 +18,20 @@ pub enum Entry {
     Owed { price: u64, slip: Slip },
 }
 
-// The answer for a line of that weight.
-pub(crate) fn entry_of(sheet: u32, lane: u8, weight: Pair<Count, Price>) -> Entry
+// Where a line of that weight puts its lane, and what is answered.
+pub(crate) fn entry_of(sheet: u32, lane: Lane, weight: Pair<Count, Price>) -> (Standing, Entry)
     requires { Consistent weight }
-    ensures { outcome result ≡ due sheet lane weight }
+    ensures standing { result.0 ≡ placed weight.first.value }
+    ensures entry { outcome result.1 ≡ due sheet lane weight }
 {
     let count = weight.first.value;
     let price = weight.second.value;
     match count {
-        0 => Entry::Unreadable,
-        1 => Entry::Clean { price },
-        _ => Entry::Owed {
-            price,
-            slip: Slip::new(sheet, lane, count),
-        },
-    }
-}
-
-// Where a line of that many readings puts its lane.
-pub(crate) fn standing_of(count: u32) -> Standing
-    ensures { result ≡ placed count }
-{
-    match count {
-        0 => Standing::Unfilled,
-        1 => Standing::Clean,
-        _ => Standing::Owed,
+        0 => (Standing::Unfilled, Entry::Unreadable),
+        1 => (Standing::Clean, Entry::Clean { price }),
+        _ => {
+            let slip = Slip::new(sheet, lane, count);
+            (Standing::Owed, Entry::Owed { price, slip })
+        }
     }
 }

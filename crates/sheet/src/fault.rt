@@ -6,7 +6,7 @@ ghost use Rattle.sheet.specs.declared.fault.SheetFault.TheVariants.{Session};
 use session::{MOST_SYMBOLS, SessionFault};
 use table::Refusal;
 
-#[derive(Clone, Copy)]
+#[derive(Clone, Copy, PartialEq, Eq, Debug)]
 pub enum SheetFault {
     // What the session refuses, beside the lane that was to be entered.
     Session { lane: u8, fault: SessionFault },
@@ -23,11 +23,20 @@ pub enum SheetFault {
 }
 
 impl SheetFault {
-    // The fault's number, place and layer. A session's fault keeps its own.
+    // The fault's number, place and layer.
     pub fn refusal(self) -> Refusal
         ensures { result ≡ refusal_of self }
     {
-        let (number, place) = match self {
+        Refusal::from(self)
+    }
+}
+
+// A session's fault keeps its own number, place and layer.
+impl From<SheetFault> for Refusal {
+    ghost from_gives = { λ f r. r ≡ refusal_of f };
+
+    fn from(fault: SheetFault) -> Refusal {
+        let (number, place) = match fault {
             SheetFault::Session { lane, fault } => {
                 return fault.refusal();
             }
@@ -46,7 +55,7 @@ impl SheetFault {
 }
 
 // A session's fault and the lane that was to be entered.
-#[derive(Clone, Copy)]
+#[derive(Clone, Copy, PartialEq, Eq, Debug)]
 pub struct AtLane {
     pub lane: u8,
     pub fault: SessionFault,

@@ -3,6 +3,7 @@
 
 mod entry;
 mod fault;
+mod lane;
 mod lanes;
 mod sheet;
 mod slip;

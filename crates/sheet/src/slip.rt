@@ -3,11 +3,12 @@ ghost use Rattle.std.specs.Prelude.{◌≡◌, true};
 ghost use Rattle.sheet.specs.Slips.{new_slip};
 
 use crate::fault::SheetFault;
+use crate::lane::Lane;
 
 // Handed out by a sheet for a lane with several readings. It may go only when it is spent.
 pub struct Slip {
     sheet: u32,
-    lane: u8,
+    pub(crate) lane: Lane,
     count: u32,
     spent: bool,
 }
@@ -26,7 +27,7 @@ impl Drop for Slip {
 }
 
 impl Slip {
-    pub(crate) fn new(sheet: u32, lane: u8, count: u32) -> Slip
+    pub(crate) fn new(sheet: u32, lane: Lane, count: u32) -> Slip
         ensures { result ≡ new_slip sheet lane count }
     {
         Slip {
@@ -48,7 +49,7 @@ impl Slip {
     pub fn lane(&self) -> u8
         ensures { result ≡ self.now.lane }
     {
-        self.lane
+        self.lane.number()
     }
 
     // How many readings the lane's line has.

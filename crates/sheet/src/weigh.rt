@@ -24,11 +24,8 @@ pub(crate) fn weigh(
 {
     let mut session = Session::open(table, weights);
     read_line(&mut session, line);
-    let weight = match session.weigh() {
-        Ok(weight) => weight,
-        // The list was judged.
-        Err(_) => unreachable(),
-    };
+    // The list was judged.
+    let weight = session.weigh().unwrap();
     session.end();
     weight
 }
@@ -42,10 +39,7 @@ fn read_line<'t, 'w>(session: &mut Session<'t, 'w, Pair<Count, Price>, u8>, line
     ensures held { Held session.new line.now }
 {
     for byte in line {
-        match session.read(*byte) {
-            Ok(_) => {}
-            // A byte is always allowed, and the line is short enough.
-            Err(_) => unreachable(),
-        }
+        // A byte is always allowed, and the line is short enough.
+        session.read(*byte).unwrap();
     }
 }

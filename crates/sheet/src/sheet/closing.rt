@@ -15,12 +15,6 @@ impl Sheet {
         ensures closes { Closes self result }
         ensures account { (number : ℕ) (h : List Event) → Run number h self → Account number h self }
     {
-        self.shut()
-    }
-
-    fn shut(self) -> Result<ClosedSheet, StillOpen>
-        ensures { Closes self result }
-    {
         match self.lowest_owed() {
             Some(lane) => Err(StillOpen {
                 sheet: self,

@@ -1,12 +1,16 @@
 // Entering lines, and all that refuses an entry.
-ghost use Rattle.std.specs.Prelude.{◌≡◌, ℕ, length, drop, IfErr, MatchResult};
-ghost use Rattle.sheet.specs.Calls.{Beside, filled};
+ghost use Rattle.std.specs.Prelude.{◌≡◌, ℕ, length, drop, IfErr, IfOk, MatchResult};
+ghost use Rattle.std.specs.Option.{option_map};
+ghost use Rattle.std.specs.Result.{result_err};
+ghost use Rattle.session.specs.Faults.{refusal_of};
+ghost use Rattle.sheet.specs.Calls.{Judged, filled};
 ghost use Rattle.sheet.specs.History.{Did, enter};
-ghost use Rattle.sheet.specs.Refusals.{JudgedAtLane, answered, entry_refusal, filled_refusal, lane_refusal, line_refusal, session_answered, session_judged};
+ghost use Rattle.sheet.specs.Refusals.{entry_refusal, filled_refusal, lane_refusal, line_refusal, session_judged};
 ghost use Rattle.sheet.specs.Weighing.{needed};
 
-use crate::entry::{Entry, entry_of, standing_of};
+use crate::entry::{Entry, entry_of};
 use crate::fault::{AtLane, SheetFault};
+use crate::lane::Lane;
 use crate::sheet::Sheet;
 use crate::standing::Standing;
 use crate::weigh::weigh;
@@ -28,44 +32,46 @@ impl Sheet {
         ensures entered { Did (enter lane line.now table.now (length weights.old) result) self.old self.new }
         ensures lent { MatchResult result (λ _. drop (needed table.now) weights.new ≡ drop (needed table.now) weights.old) (λ _. weights.new ≡ weights.old) }
     {
-        self.judge(lane, line, table, weights)?;
+        let lane = self.judge(lane, line, table, weights)?;
         let weight = weigh(table, line, weights);
-        self.place(lane, standing_of(weight.first.value));
-        Ok(entry_of(self.number, lane, weight))
+        let (standing, entry) = entry_of(self.number, lane, weight);
+        self.place(lane, standing);
+        Ok(entry)
     }
 
-    // All that refuses an entry, the lowest number first.
+    // All that refuses an entry, the lowest number first; else the lane. Table and weights stand apart here and below, as
+    // `enter` is given them and the session takes them.
     fn judge(
         &self,
         lane: u8,
         line: &[u8],
         table: &Table,
         weights: &[Pair<Count, Price>],
-    ) -> Result<(), SheetFault>
-        ensures answer { answered result ≡ entry_refusal (filled self.now lane) lane line.now table.now (length weights.now) }
-        ensures beside { IfErr result (λ f. Beside lane f) }
+    ) -> Result<Lane, SheetFault>
+        ensures judged { Judged lane (entry_refusal (filled self.now lane) lane line.now table.now (length weights.now)) result }
+        ensures same { IfOk result (λ l. l ≡ lane) }
     {
         judge_session(lane, table, weights)?;
-        judge_lane(lane)?;
+        let at = judge_lane(lane)?;
         judge_length(line.len())?;
-        self.judge_filled(lane)
+        self.judge_filled(at)
     }
 
     // A lane whose line has a reading takes no other line.
-    fn judge_filled(&self, lane: u8) -> Result<(), SheetFault>
-        ensures answer { answered result ≡ filled_refusal (filled self.now lane) lane }
-        ensures beside { IfErr result (λ f. Beside lane f) }
+    fn judge_filled(&self, lane: Lane) -> Result<Lane, SheetFault>
+        ensures judged { Judged lane (filled_refusal (filled self.now lane) lane) result }
+        ensures same { IfOk result (λ l. l ≡ lane) }
     {
-        if self.standing(lane).is(Standing::Unfilled) {
-            return Ok(());
+        if self.standing(lane) == Standing::Unfilled {
+            return Ok(lane);
         }
-        Err(SheetFault::Filled(lane))
+        Err(SheetFault::Filled(lane.number()))
     }
 }
 
 // What the session refuses before it reads a symbol.
 fn judge_list(table: &Table, weights: &[Pair<Count, Price>]) -> Result<(), SessionFault>
-    ensures { session_answered result ≡ session_judged table.now (length weights.now) }
+    ensures { option_map refusal_of (result_err result) ≡ session_judged table.now (length weights.now) }
 {
     if table.kind() != <u8 as Symbol>::kind() {
         return Err(SessionFault::BadSymbol(0));
@@ -75,27 +81,25 @@ fn judge_list(table: &Table, weights: &[Pair<Count, Price>]) -> Result<(), Sessi
 
 // The same, with the lane beside the fault.
 fn judge_session(lane: u8, table: &Table, weights: &[Pair<Count, Price>]) -> Result<(), AtLane>
-    ensures { JudgedAtLane lane (session_judged table.now (length weights.now)) result }
+    ensures answer { option_map (λ a. refusal_of a.fault) (result_err result) ≡ session_judged table.now (length weights.now) }
+    ensures beside { IfErr result (λ a. a.lane ≡ lane) }
 {
-    match judge_list(table, weights) {
-        Ok(()) => Ok(()),
-        Err(fault) => Err(AtLane { lane, fault }),
-    }
+    judge_list(table, weights).map_err(|fault| AtLane { lane, fault })
 }
 
-fn judge_lane(lane: u8) -> Result<(), SheetFault>
-    ensures answer { answered result ≡ lane_refusal lane }
-    ensures beside { IfErr result (λ f. Beside lane f) }
+// A sheet has the lanes 1 to 10.
+fn judge_lane(lane: u8) -> Result<Lane, SheetFault>
+    ensures judged { Judged lane (lane_refusal lane) result }
+    ensures same { IfOk result (λ l. l ≡ lane) }
 {
-    if lane < 1 || lane > 10 {
-        return Err(SheetFault::BadLane(lane));
+    match Lane::new(lane) {
+        Some(at) if 1 <= lane && lane <= 10 => Ok(at),
+        _ => Err(SheetFault::BadLane(lane)),
     }
-    Ok(())
 }
 
 fn judge_length(symbols: usize) -> Result<(), SheetFault>
-    ensures answer { answered result ≡ line_refusal symbols }
-    ensures beside { IfErr result (λ f. ((lane : ℕ) → Beside lane f)) }
+    ensures { (lane : ℕ) → Judged lane (line_refusal symbols) result }
 {
     if symbols > MOST_SYMBOLS {
         return Err(SheetFault::LongLine);

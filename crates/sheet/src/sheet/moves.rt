@@ -1,9 +1,9 @@
 // A new sheet, and its lanes' moves.
-ghost use Rattle.std.specs.Prelude.{◌≡◌, ◌<◌, ◌≢◌};
+ghost use Rattle.std.specs.Prelude.{◌≡◌};
 ghost use Rattle.sheet.specs.Calls.{Moved, Opened};
 ghost use Rattle.sheet.specs.Sheets.{standing};
-ghost use Rattle.sheet.specs.declared.standing.Standing.TheVariants.{Unfilled};
 
+use crate::lane::Lane;
 use crate::lanes::LaneSet;
 use crate::sheet::Sheet;
 use crate::standing::Standing;
@@ -23,17 +23,16 @@ impl Sheet {
     }
 
     // Where the lane stands.
-    pub(crate) fn standing(&self, lane: u8) -> Standing
-        ensures value { result ≡ standing self.now lane }
-        ensures few { (result ≢ Unfilled) → lane < 16 }
+    pub(crate) fn standing(&self, lane: Lane) -> Standing
+        ensures { result ≡ standing self.now lane }
     {
-        if self.clean.has(lane) {
+        if self.clean.holds(lane) {
             Standing::Clean
-        } else if self.owed.has(lane) {
+        } else if self.owed.holds(lane) {
             Standing::Owed
-        } else if self.taken.has(lane) {
+        } else if self.taken.holds(lane) {
             Standing::Taken
-        } else if self.struck.has(lane) {
+        } else if self.struck.holds(lane) {
             Standing::Struck
         } else {
             Standing::Unfilled
@@ -41,13 +40,12 @@ impl Sheet {
     }
 
     // Moves a lane, and leaves every other as it is.
-    pub(crate) fn place(&mut self, lane: u8, to: Standing)
-        requires { lane < 16 }
+    pub(crate) fn place(&mut self, lane: Lane, to: Standing)
         ensures { Moved lane to self.old self.new }
     {
-        self.clean = self.clean.put(lane, to.is(Standing::Clean));
-        self.owed = self.owed.put(lane, to.is(Standing::Owed));
-        self.taken = self.taken.put(lane, to.is(Standing::Taken));
-        self.struck = self.struck.put(lane, to.is(Standing::Struck));
+        self.clean = self.clean.put(lane, to == Standing::Clean);
+        self.owed = self.owed.put(lane, to == Standing::Owed);
+        self.taken = self.taken.put(lane, to == Standing::Taken);
+        self.struck = self.struck.put(lane, to == Standing::Struck);
     }
 }

@@ -1,5 +1,5 @@
 // Ruling on owed lanes.
-ghost use Rattle.std.specs.Prelude.{◌≡◌, ◌<◌, true};
+ghost use Rattle.std.specs.Prelude.{◌≡◌};
 ghost use Rattle.sheet.specs.Calls.{Ruled, matches};
 ghost use Rattle.sheet.specs.History.{Did, rule, strike, take};
 
@@ -26,13 +26,11 @@ impl Sheet {
     fn rule(&mut self, slip: Slip, to: Standing) -> Result<(), Returned>
         ensures { Ruled to slip result self.old self.new }
     {
-        let lane = slip.lane();
         if !self.matches(&slip) {
-            return Err(Returned {
-                slip,
-                fault: SheetFault::NoSuchSlip(lane),
-            });
+            let fault = SheetFault::NoSuchSlip(slip.lane());
+            return Err(Returned { slip, fault });
         }
+        let lane = slip.lane;
         slip.spend();
         self.place(lane, to);
         Ok(())
@@ -40,9 +38,8 @@ impl Sheet {
 
     // Whether the slip is for this sheet's number and its lane is owed.
     fn matches(&self, slip: &Slip) -> bool
-        ensures value { result ≡ matches self.now slip.now }
-        ensures few { result ≡ true → slip.now.lane < 16 }
+        ensures { result ≡ matches self.now slip.now }
     {
-        slip.sheet() == self.number && self.standing(slip.lane()).is(Standing::Owed)
+        slip.sheet() == self.number && self.standing(slip.lane) == Standing::Owed
     }
 }

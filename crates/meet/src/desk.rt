@@ -1,0 +1,94 @@
+// The desk at which a meet's result lines are entered.
+ghost use Rattle.std.specs.Prelude.{◌≡◌, true};
+ghost use Rattle.meet.specs.Settled.{Matched, Settled, StruckBy};
+ghost use Rattle.sheet.specs.Calls.{Moved, filled, matches};
+ghost use Rattle.sheet.specs.Closes.{is_owed};
+ghost use Rattle.sheet.specs.Entries.{outcome};
+ghost use Rattle.sheet.specs.Lanes.{NoneOf};
+ghost use Rattle.sheet.specs.declared.standing.Standing.TheVariants.{Struck};
+ghost use Rattle.table.specs.Content.{content};
+ghost use Rattle.table.specs.Kinds.{byte_number};
+
+use scale::{Count, Pair, Price};
+use session::WEIGHTS_PER_NODE;
+use sheet::{Entry, Sheet, SheetFault, Slip};
+use table::{MOST_NODES, Table};
+
+// How many weights the greatest table needs.
+const MOST_WEIGHTS: usize = WEIGHTS_PER_NODE * MOST_NODES;
+
+// The meet has one sheet, so any number will do.
+const SHEET_NUMBER: u32 = 1;
+
+// A byte table, room to weigh any line by it, and a sheet on which no lane is owed.
+pub(crate) struct Desk<'t> {
+    table: &'t Table,
+    weights: [Pair<Count, Price>; MOST_WEIGHTS],
+    sheet: Sheet,
+    ghost bytes: { (content table.now).kind ≡ byte_number },
+    ghost settled: { NoneOf (is_owed sheet) },
+}
+
+impl<'t> Desk<'t> {
+    // A desk on whose sheet no lane is filled.
+    pub(crate) fn open(table: &'t Table) -> Desk<'t>
+        requires { (content table.now).kind ≡ byte_number }
+        ensures table { result.table.now ≡ table.now }
+        ensures unfilled { NoneOf (filled result.sheet) }
+    {
+        let weight = Pair {
+            first: Count { value: 0 },
+            second: Price { value: 0 },
+        };
+        Desk {
+            table,
+            weights: [weight; MOST_WEIGHTS],
+            sheet: Sheet::open(SHEET_NUMBER),
+        }
+    }
+
+    // Enters a line, strikes it where it has several readings, and answers how many it has.
+    pub(crate) fn settle(&mut self, lane: u8, line: &[u8]) -> Result<u32, SheetFault>
+        ensures table { self.new.table.now ≡ self.old.table.now }
+        ensures settled { Settled lane line.now self.old.table.now result self.old.sheet self.new.sheet }
+    {
+        let entry = self.sheet.enter(lane, line, self.table, &mut self.weights)?;
+        Ok(rule(&mut self.sheet, entry))
+    }
+
+    // Closes and prints the sheet.
+    pub(crate) fn close(self) {
+        let Desk {
+            table,
+            weights,
+            sheet,
+        } = self;
+        // No lane is owed.
+        let _ = sheet.close().unwrap().print();
+    }
+}
+
+// Strikes a line with several readings, leaves any other as it is, and answers how many readings it has.
+fn rule(sheet: &mut Sheet, entry: Entry) -> u32
+    requires { Matched sheet.old entry }
+    ensures count { result ≡ (outcome entry).count }
+    ensures ruled { StruckBy entry sheet.old sheet.new }
+{
+    match entry {
+        Entry::Unreadable => 0,
+        Entry::Clean { price } => 1,
+        Entry::Owed { price, slip } => strike(sheet, slip),
+    }
+}
+
+// Strikes a slip's lane, and answers how many readings its line has.
+fn strike(sheet: &mut Sheet, slip: Slip) -> u32
+    requires { matches sheet.old slip ≡ true }
+    ensures count { result ≡ slip.count }
+    ensures struck { Moved slip.lane Struck sheet.old sheet.new }
+{
+    let count = slip.count();
+    // The slip matches.
+    sheet.strike(slip).unwrap();
+    count
+}
