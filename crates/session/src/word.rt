@@ -1,7 +1,8 @@
 // The marks of a whole word.
 ghost use Rattle.std.specs.Prelude.{◌≡◌, ◌<◌, ◌≤◌, [], length, if◌then◌else◌, MatchResult, nat_eq};
+ghost use Rattle.std.specs.Result.{result_err};
 ghost use Rattle.session.specs.Shifts.{Fits};
-ghost use Rattle.session.specs.Sessions.{fault_in, room_fault};
+ghost use Rattle.session.specs.Sessions.{room_fault};
 ghost use Rattle.session.specs.Words.{Follows, Marked, marks_after, needed};
 ghost use Rattle.table.specs.Content.{tree};
 ghost use Rattle.table.specs.Tree.{tree_of};
@@ -23,7 +24,7 @@ pub fn mark_word<W: Scale, S: Symbol>(
     word: &[S],
     weights: &mut [W],
 ) -> Result<(), SessionFault>
-    ensures refused { fault_in result ≡ room_fault table.now (length weights.old) }
+    ensures refused { result_err result ≡ room_fault table.now (length weights.old) }
     ensures after { MatchResult result (λ _. Marked W.Scale.ops S.Symbol.passing (tree table.now) word.now weights.old weights.new) (λ _. weights.new ≡ weights.old) }
 {
     let needed = needed_by(table);
@@ -45,8 +46,8 @@ fn mark_symbols<W: Scale, S: Symbol>(nodes: &[Node], word: &[S], marks: &mut [W]
     ensures { marks.new ≡ marks_after W.Scale.ops S.Symbol.passing (tree_of nodes.now) word.now }
 {
     start::<W, S>(nodes, marks);
-    for at in 0..word.len() {
-        mark_symbol(nodes, marks, at, word[at]);
+    for (held, symbol) in word.iter().enumerate() {
+        mark_symbol(nodes, marks, held, *symbol);
     }
 }
 
