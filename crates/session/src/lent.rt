@@ -8,7 +8,7 @@ ghost use Rattle.session.specs.declared.fault.SessionFault.TheVariants.{ShortLis
 ghost use Rattle.table.specs.Content.{tree};
 
 use crate::fault::{MOST_SYMBOLS, SessionFault};
-use crate::marks::WEIGHTS_PER_NODE;
+use crate::marks::{WEIGHTS_PER_NODE, root};
 use crate::word::mark_symbol;
 use scale::Scale;
 use table::{Symbol, Table};
@@ -49,7 +49,7 @@ pub(crate) fn mark_next<W: Scale, S: Symbol>(
     let needed = needed_by(table);
     judge_room(needed, weights.len())?;
     judge_symbol(table, held, symbol)?;
-    Ok(mark_symbol(table.nodes(), &mut weights[0..needed], held, symbol))
+    Ok(mark_symbol(table.nodes(), &mut weights[..needed], held, symbol))
 }
 
 // A symbol that is not allowed or of another kind than the table's, and then a session that is full.
@@ -76,11 +76,6 @@ pub(crate) fn root_weight<W: Scale, S: Symbol>(
 {
     let needed = needed_by(table);
     judge_room(needed, weights.len())?;
-    Ok(weights[needed - root_from_end(held)])
-}
-
-fn root_from_end(held: usize) -> usize
-    ensures { result ≡ (if nat_le 1 held then 2 else 3) }
-{
-    if held >= 1 { 2 } else { 3 }
+    let root = root(&weights[..needed]);
+    Ok(if held == 0 { root.empty } else { root.last })
 }

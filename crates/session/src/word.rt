@@ -9,7 +9,7 @@ ghost use Rattle.table.specs.Tree.{tree_of};
 
 use crate::fault::SessionFault;
 use crate::lent::{judge_room, needed_by};
-use crate::marks::{shift, shift_inner};
+use crate::marks::shift;
 use crate::start::start;
 use scale::Scale;
 use table::{Node, Symbol, Table};
@@ -29,7 +29,7 @@ pub fn mark_word<W: Scale, S: Symbol>(
 {
     let needed = needed_by(table);
     judge_room(needed, weights.len())?;
-    mark_symbols(table.nodes(), word, &mut weights[0..needed]);
+    mark_symbols(table.nodes(), word, &mut weights[..needed]);
     Ok(())
 }
 
@@ -61,12 +61,7 @@ pub(crate) fn mark_symbol<W: Scale, S: Symbol>(
     requires fits { Fits (tree_of nodes.now) nodes.now (length marks.old) }
     ensures { Follows W.Scale.ops S.Symbol.passing (tree_of nodes.now) marks.old held symbol marks.new result }
 {
-    let incoming = to_root(held);
-    // With a caller besides `shift`, the compiler keeps `shift_inner` a function and puts `shift`, leaves and all, in its callers.
-    if nodes.len() > 1 {
-        return shift_inner(nodes, marks, incoming, symbol);
-    }
-    shift(nodes, marks, incoming, symbol)
+    shift(nodes, marks, to_root(held), symbol)
 }
 
 // What comes in at the root: one with the first symbol, nothing later.

@@ -5,7 +5,7 @@ use Rattle.session.proofs.run.take_turns.Goals as goal
 use Rattle.session.specs.Runs.{AllRight, Right, held_after}
 use Rattle.session.specs.Sessions.{Holds}
 use Rattle.session.specs.declared.turn.Turn.{Turn}
-use Rattle.std.proofs.lemmas.List.{take_all, take_more_set}
+use Rattle.std.proofs.lemmas.List.{take_more_set}
 
 pub loop-turn-preserved : goal.loop-turn-preserved
 loop-turn-preserved g c =
