@@ -5,8 +5,7 @@ use crate::sessions::{
 };
 use scale::{Count, Pair, Price, Scale};
 use session::{
-    Ask, MOST_SYMBOLS, Reply, Session, SessionFault, Turn, judge_weights, mark_word, run_both,
-    run_turns,
+    Ask, MOST_SYMBOLS, Session, SessionFault, Turn, judge_weights, mark_word, run_both, run_turns,
 };
 use std::alloc::{AllocError, Global};
 use std::io;
@@ -140,28 +139,8 @@ fn ask<'t, 'w, W: Scale, S: Symbol>(
     session: &mut Session<'t, 'w, W, S>,
     ask: Ask<S>,
 ) -> Turn<W, S> {
-    let reply = reply_to(session, ask);
+    let reply = session.ask(ask);
     Turn { ask, reply }
-}
-
-fn reply_to<'t, 'w, W: Scale, S: Symbol>(
-    session: &mut Session<'t, 'w, W, S>,
-    ask: Ask<S>,
-) -> Reply<W> {
-    match ask {
-        Ask::Read(symbol) => match session.read(symbol) {
-            Ok(tests) => Reply::Took(tests),
-            Err(fault) => Reply::Refused(fault),
-        },
-        Ask::Weigh => match session.weigh() {
-            Ok(weight) => Reply::Weighs(weight),
-            Err(fault) => Reply::Refused(fault),
-        },
-        Ask::Restart => match session.restart() {
-            Ok(()) => Reply::Restarted,
-            Err(fault) => Reply::Refused(fault),
-        },
-    }
 }
 
 // A session over a list that is one weight too short.

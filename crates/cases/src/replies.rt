@@ -125,16 +125,19 @@ fn asked<S: Signed>(heap: Global, ask: Ask<S>) -> Result<String, AllocError> {
     }
 }
 
-fn answered<W: Weighed>(heap: Global, reply: Reply<W>) -> Result<String, AllocError> {
+fn answered<W: Weighed>(
+    heap: Global,
+    reply: Result<Reply<W>, SessionFault>,
+) -> Result<String, AllocError> {
     match reply {
-        Reply::Took(1) => String::from_str(heap, "1 test"),
-        Reply::Took(tests) => format!(in heap; "{tests} tests"),
-        Reply::Weighs(weight) => {
+        Ok(Reply::Took(1)) => String::from_str(heap, "1 test"),
+        Ok(Reply::Took(tests)) => format!(in heap; "{tests} tests"),
+        Ok(Reply::Weighs(weight)) => {
             let weight = weight.weight();
             format!(in heap; "{weight}")
         }
-        Reply::Restarted => String::from_str(heap, "done"),
-        Reply::Refused(fault) => refused(heap, fault),
+        Ok(Reply::Restarted) => String::from_str(heap, "done"),
+        Err(fault) => refused(heap, fault),
     }
 }
 

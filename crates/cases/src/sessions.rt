@@ -232,7 +232,7 @@ pub fn turns_of<W: Scale, S: Symbol>(
     for ask in asks {
         turns.push(Turn {
             ask: *ask,
-            reply: Reply::Took(99),
+            reply: Ok(Reply::Took(99)),
         })?;
     }
     Ok(turns)

@@ -1,5 +1,6 @@
 -- A map between two scales carries every weight, and so every reply of a succession. Assumes nothing.
-use Rattle.std.proofs.Common.{◌≡◌, ℕ, Bool, List, [], ◌∷◌, map, length, Some, None, Option, sym, refl, ap, ◌∙◌, subst, arith}
+use Rattle.std.proofs.Common.{◌≡◌, ℕ, Bool, List, [], ◌∷◌, map, length, Some, None, Ok, Err, Option, Result, sym, refl, ap, ◌∙◌, subst, arith}
+use Rattle.std.specs.Result.{result_map_both}
 use Rattle.scale.specs.Semiring.{Ops}
 use Rattle.table.specs.declared.node.Leaf.{Leaf}
 use Rattle.table.specs.declared.table.Table.{Table}
@@ -7,10 +8,11 @@ use Rattle.table.specs.Content.{tree}
 use Rattle.table.specs.Tree.{Tree}
 use Rattle.readings.specs.Readings.{Reading, prices}
 use Rattle.readings.specs.Weights.{product, total, reading_weight, readings, weight}
+use Rattle.session.specs.declared.fault.SessionFault.{SessionFault}
 use Rattle.session.specs.declared.turn.Ask.{Ask}
 use Rattle.session.specs.declared.turn.Ask.TheVariants.{Read, Weigh, Restart}
 use Rattle.session.specs.declared.turn.Reply.{Reply}
-use Rattle.session.specs.declared.turn.Reply.TheVariants.{Took, Weighs, Restarted, Refused}
+use Rattle.session.specs.declared.turn.Reply.TheVariants.{Took, Weighs, Restarted}
 use Rattle.session.specs.declared.turn.Turn.{Turn}
 use Rattle.session.specs.Runs.{Carries, Right, AllRight, ReadRight, asks, carried, held_next, replies}
 use Rattle.session.proofs.Lending.{none_some}
@@ -43,22 +45,26 @@ module _ {A B : Type 0} (a : Ops A) (b : Ops B) (f : A → B) (carry : Carries a
     weight_carried : (t : Tree) (w : List S) → weight b passing t w ≡ f (weight a passing t w)
     weight_carried t w = total_carried (readings passing t w)
 
-    read_carried : (w : List S) (s : S) (r : Reply A) (q : Reply B) → ReadRight a passing number allowed table w s r → ReadRight b passing number allowed table w s q → (carried (λ y. y) q ≡ carried f r) × (held_next w (Read s) q ≡ held_next w (Read s) r)
-    read_carried w s (Took n) (Took m) x y = (refl, refl)
-    read_carried w s (Took n) (Weighs v) x y = absurd y
-    read_carried w s (Took n) Restarted x y = absurd y
-    read_carried w s (Took n) (Refused g) x y = absurd (none_some (sym x.0 ∙ y))
-    read_carried w s (Weighs v) q x y = absurd x
-    read_carried w s Restarted q x y = absurd x
-    read_carried w s (Refused e) (Took m) x y = absurd (none_some (sym y.0 ∙ x))
-    read_carried w s (Refused e) (Weighs v) x y = absurd y
-    read_carried w s (Refused e) Restarted x y = absurd y
-    read_carried w s (Refused e) (Refused g) x y = (ap Refused (some_same e g e (sym y ∙ x)), refl)
+    -- an answer at the second scale
+    abbrev answer : {C : Type 0} → (C → B) → Result (Reply C) SessionFault → Result (Reply B) SessionFault
+    answer g r = result_map_both (carried g) (λ e. e) r
 
-    turn_carried : (w : List S) (k : Ask S) (r : Reply A) (q : Reply B) → Right a passing number allowed table w k r → Right b passing number allowed table w k q → (carried (λ y. y) q ≡ carried f r) × (held_next w k q ≡ held_next w k r)
+    read_carried : (w : List S) (s : S) (r : Result (Reply A) SessionFault) (q : Result (Reply B) SessionFault) → ReadRight a passing number allowed table w s r → ReadRight b passing number allowed table w s q → (answer (λ y. y) q ≡ answer f r) × (held_next w (Read s) q ≡ held_next w (Read s) r)
+    read_carried w s (Ok (Took n)) (Ok (Took m)) x y = (refl, refl)
+    read_carried w s (Ok (Took n)) (Ok (Weighs v)) x y = absurd y
+    read_carried w s (Ok (Took n)) (Ok Restarted) x y = absurd y
+    read_carried w s (Ok (Took n)) (Err g) x y = absurd (none_some (sym x.0 ∙ y))
+    read_carried w s (Ok (Weighs v)) q x y = absurd x
+    read_carried w s (Ok Restarted) q x y = absurd x
+    read_carried w s (Err e) (Ok (Took m)) x y = absurd (none_some (sym y.0 ∙ x))
+    read_carried w s (Err e) (Ok (Weighs v)) x y = absurd y
+    read_carried w s (Err e) (Ok Restarted) x y = absurd y
+    read_carried w s (Err e) (Err g) x y = (ap Err (some_same e g e (sym y ∙ x)), refl)
+
+    turn_carried : (w : List S) (k : Ask S) (r : Result (Reply A) SessionFault) (q : Result (Reply B) SessionFault) → Right a passing number allowed table w k r → Right b passing number allowed table w k q → (answer (λ y. y) q ≡ answer f r) × (held_next w k q ≡ held_next w k r)
     turn_carried w (Read s) r q x y = read_carried w s r q x y
-    turn_carried w Weigh r q x y = (ap (carried (λ y. y)) y ∙ ap Weighs (weight_carried (tree table) w) ∙ sym (ap (carried f) x), refl)
-    turn_carried w Restart r q x y = (ap (carried (λ y. y)) y ∙ sym (ap (carried f) x), refl)
+    turn_carried w Weigh r q x y = (ap (answer (λ y. y)) y ∙ ap (λ v. Ok (Weighs v)) (weight_carried (tree table) w) ∙ sym (ap (answer f) x), refl)
+    turn_carried w Restart r q x y = (ap (answer (λ y. y)) y ∙ sym (ap (answer f) x), refl)
 
     pub turns_carried : (w : List S) (us : List (Turn A S)) (vs : List (Turn B S)) → AllRight a passing number allowed table w us → AllRight b passing number allowed table w vs → asks us ≡ asks vs → replies (λ y. y) vs ≡ replies f us
     turns_carried w [] [] x y e = refl

@@ -1,9 +1,10 @@
 -- The three weights of a pattern's root stand last in its marks. Assumes nothing.
-use Rattle.std.proofs.Common.{◌≡◌, ℕ, ◌+◌, ◌-◌, ◌*◌, Bool, List, [], ◌∷◌, ◌++◌, length, get_or, sym, refl, ap, ◌∙◌, append_assoc, arith, length-append}
+use Rattle.std.proofs.Common.{◌≡◌, ℕ, ◌+◌, ◌-◌, ◌*◌, Bool, List, [], ◌∷◌, ◌++◌, length, get_or, drop, sym, refl, ap, ◌∙◌, append_assoc, arith, length-append}
 use Rattle.std.proofs.lemmas.List.{get_or-append_right}
 use Rattle.scale.specs.Semiring.{Ops}
 use Rattle.table.specs.declared.node.Leaf.{Leaf}
 use Rattle.table.specs.Tree.{Tree, empty, leaf, either, then, repeat, size}
+use Rattle.session.proofs.Parts.{at_root}
 use Rattle.session.specs.Marks.{Taken, empty_weight, last_weight, flag_weight, to_right, to_repeated, marks}
 
 -- three weights for each of n nodes, the last of them x, y and z
@@ -16,20 +17,23 @@ module _ {A : Type 0} {all : List A} {n : ℕ} {x y z : A} (r : Rooted all n x y
   pub rooted_long : length all ≡ n
   rooted_long = ap length r.is ∙ length-append r.below (x ∷ y ∷ z ∷ []) ∙ r.long
 
-  at_root : (k j : ℕ) (d : A) → k + 3 ≡ n + j → get_or all k d ≡ get_or (x ∷ y ∷ z ∷ []) j d
-  at_root k j d e =
+  read_at : (k j : ℕ) (d : A) → k + 3 ≡ n + j → get_or all k d ≡ get_or (x ∷ y ∷ z ∷ []) j d
+  read_at k j d e =
       let past : k - length r.below ≡ j = omega (arith, r.long) in
       ap (λ l. get_or l k d) r.is ∙ get_or-append_right r.below (x ∷ y ∷ z ∷ []) (length r.below) k d refl (omega (arith, r.long))
       ∙ ap (λ i. get_or (x ∷ y ∷ z ∷ []) i d) past
 
   pub rooted_empty : (d : A) → get_or all (n - 3) d ≡ x
-  rooted_empty d = at_root (n - 3) 0 d (omega (arith, r.long))
+  rooted_empty d = read_at (n - 3) 0 d (omega (arith, r.long))
 
   pub rooted_last : (d : A) → get_or all (n - 2) d ≡ y
-  rooted_last d = at_root (n - 2) 1 d (omega (arith, r.long))
+  rooted_last d = read_at (n - 2) 1 d (omega (arith, r.long))
 
-  pub rooted_flag : (d : A) → get_or all (n - 1) d ≡ z
-  rooted_flag d = at_root (n - 1) 2 d (omega (arith, r.long))
+  -- all three
+  pub root_read : {e l f : A} → drop (length all - 3) all ≡ e ∷ l ∷ f ∷ [] → (e ≡ x) × (l ≡ y) × (f ≡ z)
+  root_read {e} {l} {f} read =
+      let same : e ∷ l ∷ f ∷ [] ≡ x ∷ y ∷ z ∷ [] = sym read ∙ at_root all r.below (x ∷ y ∷ z ∷ []) r.is refl in
+      (ap (λ m. get_or m 0 e) same, ap (λ m. get_or m 1 l) same, ap (λ m. get_or m 2 f) same)
 
 lone : {A : Type 0} (x y z : A) → Rooted (x ∷ y ∷ z ∷ []) (3 * 1) x y z
 lone x y z = record { below = []; is = refl; long = refl }

@@ -1,11 +1,11 @@
 -- What a list of nodes says of its tree: the root's kind, and where the operands' nodes stand. Assumes nothing.
-use Rattle.std.proofs.Common.{◌≡◌, ℕ, ◌+◌, ◌-◌, ◌*◌, ◌≤◌, List, [], ◌∷◌, ◌++◌, length, take, drop, sym, refl, ap, ◌∙◌, append-nil, arith, length-append}
+use Rattle.std.proofs.Common.{◌≡◌, ℕ, ◌+◌, ◌-◌, ◌*◌, ◌≤◌, List, [], ◌∷◌, ◌++◌, length, take, drop, sym, refl, ap, ◌∙◌, append_assoc, append-nil, arith, length-append}
 use Rattle.table.specs.declared.node.Node.{Node}
 use Rattle.table.specs.Rules.{node_at}
 use Rattle.table.specs.Tree.{Tree, empty, leaf, either, then, repeat, size, leaf_of, postfix, tree_of}
-use Rattle.table.proofs.Postfix.{tree_of_postfix, size_pos, length_postfix, root, root_at, root_size}
-use Rattle.session.specs.Shifts.{left_of, right_of, Binary, Cut, Fits}
-use Rattle.session.proofs.Parts.{left_part, right_part, only_part}
+use Rattle.table.proofs.Postfix.{tree_alone, postfix_tree_of, size_pos, length_postfix, root, root_at, root_size}
+use Rattle.std.proofs.lemmas.List.{take_at, drop_at}
+use Rattle.session.specs.Shifts.{left_of, right_of, Binary, Fits, Writes}
 
 -- the root stands last
 pub root_last : (t : Tree) (ns : List Node) → postfix t ≡ ns → node_at ns (length ns - 1) ≡ root t
@@ -78,32 +78,20 @@ has_operands (either x y) e b c d = b refl
 has_operands (then x y) e b c d = c refl
 has_operands (repeat x) e b c d = d refl
 
--- the right operand's root stands just before the root
-module _ (x y : Tree) (r : Node) (ns : List Node) (e : postfix x ++ (postfix y ++ (r ∷ [])) ≡ ns) where
-  pub all_long : length ns ≡ size x + size y + 1
-  all_long = ap length (sym e) ∙ length-append (postfix x) (postfix y ++ (r ∷ [])) ∙ omega (arith, length-append (postfix y) (r ∷ []), length_postfix x, length_postfix y)
-
-  right_root : (node_at ns (length ns - 2)).size ≡ size y
-  right_root =
-      ap (λ l. (node_at l (length ns - 2)).size) (sym e)
-      ∙ ap (λ n. n.size) (root_at y (postfix x) (r ∷ []) (length ns - 2) (omega (arith, all_long, length_postfix x, size_pos y, size_pos x))) ∙ root_size y
-
-pub right_size : (t : Tree) (ns : List Node) → postfix t ≡ ns → Binary t → Cut t (length ns) (node_at ns (length ns - 2)).size
-right_size empty ns e b = absurd b
-right_size (leaf l p) ns e b = absurd b
-right_size (either x y) ns e b = record {
-  long = omega (arith, all_long x y _ ns e, right_root x y _ ns e);
-  some_left = size_pos x;
-  some_right = omega (arith, right_root x y _ ns e, size_pos y);
-  right_long = right_root x y _ ns e;
+-- a tree written out, and three weights for each of its nodes
+pub writes : (t : Tree) (ns : List Node) → postfix t ≡ ns → Writes t ns
+writes t ns whole = record {
+  some = omega (arith, ap length whole, length_postfix t, size_pos t);
+  tree = sym (tree_alone t ns whole);
+  whole = postfix_tree_of t ns whole;
 }
-right_size (then x y) ns e b = record {
-  long = omega (arith, all_long x y _ ns e, right_root x y _ ns e);
-  some_left = size_pos x;
-  some_right = omega (arith, right_root x y _ ns e, size_pos y);
-  right_long = right_root x y _ ns e;
-}
-right_size (repeat x) ns e b = absurd b
+
+module _ {t : Tree} {ns : List Node} (w : Writes t ns) where
+  pub writes_size : size t ≡ length ns
+  writes_size = ap size (sym w.tree) ∙ sym (length_postfix (tree_of ns)) ∙ ap length w.whole
+
+  pub writes_fit : (m : ℕ) → m ≡ 3 * length ns → Fits (tree_of ns) ns m
+  writes_fit m long = record { some = w.some; whole = w.whole; long = long }
 
 -- the nodes of both operands, and the root
 pub binary_nodes : (t : Tree) → Binary t → (r : Node) × (postfix t ≡ postfix (left_of t) ++ (postfix (right_of t) ++ (r ∷ [])))
@@ -113,44 +101,37 @@ binary_nodes (either x y) b = (_, refl)
 binary_nodes (then x y) b = (_, refl)
 binary_nodes (repeat x) b = absurd b
 
--- what a symbol's shift asks of each operand
-fits_tree : (t : Tree) (ns : List Node) (m : ℕ) → postfix t ≡ ns → m ≡ 3 * size t → Fits (tree_of ns) ns m
-fits_tree t ns m whole long =
-    let same : t ≡ tree_of ns = sym (tree_of_postfix t) ∙ ap tree_of whole in
-    let nodes : length ns ≡ size t = ap length (sym whole) ∙ length_postfix t in
-    record { some = omega (arith, size_pos t); whole = ap postfix (sym same) ∙ whole; long = omega arith }
+-- where the operands' nodes stand; the right one's root stands just before the root
+module _ (x y : Tree) (r : Node) (ns : List Node) (e : ns ≡ postfix x ++ (postfix y ++ (r ∷ []))) where
+  pub all_long : length ns ≡ size x + size y + 1
+  all_long = ap length e ∙ length-append (postfix x) (postfix y ++ (r ∷ [])) ∙ omega (arith, length-append (postfix y) (r ∷ []), length_postfix x, length_postfix y)
 
-module _ (x y : Tree) (r : Node) (ns : List Node) (n top : ℕ) (e : ns ≡ postfix x ++ (postfix y ++ (r ∷ []))) (xn : size x ≡ n) (tn : size x + size y ≡ top) where
-  nodes_cut : length (postfix x) ≡ n
-  nodes_cut = length_postfix x ∙ xn
+  pub right_root : (node_at ns (length ns - 1 - 1)).size ≡ size y
+  right_root =
+      ap (λ l. (node_at l (length ns - 1 - 1)).size) e
+      ∙ ap (λ n. n.size) (root_at y (postfix x) (r ∷ []) (length ns - 1 - 1) (omega (arith, all_long, length_postfix x, size_pos y, size_pos x))) ∙ root_size y
 
-  nodes_all : length (postfix x) + length (postfix y) ≡ top
-  nodes_all = (λ i. length_postfix x i + length_postfix y i) ∙ tn
+  before_root : take (length ns - 1) ns ≡ postfix x ++ postfix y
+  before_root =
+      let top : length ns - 1 ≡ length (postfix x ++ postfix y) = omega (arith, all_long, length-append (postfix x) (postfix y), length_postfix x, length_postfix y) in
+      (λ i. take (top i) ((e ∙ sym (append_assoc (postfix x) (postfix y) (r ∷ []))) i)) ∙ take_at (postfix x ++ postfix y) (r ∷ []) (length (postfix x ++ postfix y)) refl
 
-  left_nodes : take (n - 0) (drop 0 ns) ≡ postfix x
-  left_nodes = left_part ns (postfix x) (postfix y) (r ∷ []) n top e nodes_cut nodes_all
+  module _ (m : ℕ) (is : m ≡ size y) where
+    left_long : length (postfix x) ≡ length ns - 1 - m
+    left_long = omega (arith, all_long, length_postfix x)
 
-  right_nodes : take (top - n) (drop n ns) ≡ postfix y
-  right_nodes = right_part ns (postfix x) (postfix y) (r ∷ []) n top e nodes_cut nodes_all
+    pub left_nodes : take (length ns - 1 - m) (take (length ns - 1) ns) ≡ postfix x
+    left_nodes = ap (take (length ns - 1 - m)) before_root ∙ take_at (postfix x) (postfix y) (length ns - 1 - m) left_long
 
-  pub left_tree : tree_of (take (n - 0) (drop 0 ns)) ≡ x
-  left_tree = ap tree_of left_nodes ∙ tree_of_postfix x
+    pub right_nodes : drop (length ns - 1 - m) (take (length ns - 1) ns) ≡ postfix y
+    right_nodes = ap (drop (length ns - 1 - m)) before_root ∙ drop_at (postfix x) (postfix y) (length ns - 1 - m) left_long
 
-  pub right_tree : tree_of (take (top - n) (drop n ns)) ≡ y
-  right_tree = ap tree_of right_nodes ∙ tree_of_postfix y
+-- the same of a repeat
+module _ (x : Tree) (ns : List Node) (e : postfix (repeat x) ≡ ns) where
+  pub only_long : length ns ≡ size x + 1
+  only_long = ap length (sym e) ∙ length_postfix (repeat x)
 
-  pub fits_left : (m : ℕ) → m ≡ 3 * n → Fits (tree_of (take (n - 0) (drop 0 ns))) (take (n - 0) (drop 0 ns)) m
-  fits_left m long = fits_tree x _ m (sym left_nodes) (omega arith)
-
-  pub fits_right : (m : ℕ) → m + 3 * n ≡ 3 * top → Fits (tree_of (take (top - n) (drop n ns))) (take (top - n) (drop n ns)) m
-  fits_right m long = fits_tree y _ m (sym right_nodes) (omega arith)
-
-module _ (x : Tree) (r : Node) (ns : List Node) (top : ℕ) (e : ns ≡ postfix x ++ (r ∷ [])) (xn : size x ≡ top) where
-  only_nodes : take (top - 0) (drop 0 ns) ≡ postfix x
-  only_nodes = only_part ns (postfix x) (r ∷ []) top e (length_postfix x ∙ xn)
-
-  pub only_tree : tree_of (take (top - 0) (drop 0 ns)) ≡ x
-  only_tree = ap tree_of only_nodes ∙ tree_of_postfix x
-
-  pub fits_only : (m : ℕ) → m ≡ 3 * top → Fits (tree_of (take (top - 0) (drop 0 ns))) (take (top - 0) (drop 0 ns)) m
-  fits_only m long = fits_tree x _ m (sym only_nodes) (omega arith)
+  pub only_nodes : take (length ns - 1) ns ≡ postfix x
+  only_nodes =
+      let top : length ns - 1 ≡ length (postfix x) = omega (arith, only_long, length_postfix x) in
+      (λ i. take (top i) (sym e i)) ∙ take_at (postfix x) _ (length (postfix x)) refl

@@ -1,8 +1,6 @@
 -- The marks of a word, symbol by symbol, and the root's weight after it. Assumes nothing.
 use Rattle.std.proofs.Common.{◌≡◌, ℕ, ◌-◌, ◌*◌, Bool, cond, eqb, List, [], ◌∷◌, ◌++◌, reverse, length, get_or, take, drop, sym, refl, ap, ◌∙◌, arith}
 use mathlib.Core.List.{reverse-append, reverse-reverse}
-use native.Mathlib.Nat.{sub-zero}
-use borrow.Rule.Slice.PartMut.{post_of}
 use lib.Dec.{eqb-suc-zero}
 use lib.ListN.{length-reverse}
 use Rattle.std.proofs.lemmas.List.{take_at, drop_at, get_or-take}
@@ -20,11 +18,11 @@ use Rattle.session.proofs.Rooted.{rooted_long, rooted_empty, rooted_last, marks_
 
 -- the front of a list, written anew
 module _ {A : Type 0} (all new : List A) (n : ℕ) (long : length new ≡ n) where
-  pub front_new : take n (new ++ post_of 0 (n - 0) all) ≡ new
-  front_new = take_at new (post_of 0 (n - 0) all) n long
+  pub front_new : take n (new ++ drop n all) ≡ new
+  front_new = take_at new (drop n all) n long
 
-  pub behind_same : drop n (new ++ post_of 0 (n - 0) all) ≡ drop n all
-  behind_same = drop_at new (post_of 0 (n - 0) all) n long ∙ ap (λ k. drop k all) (sub-zero n)
+  pub behind_same : drop n (new ++ drop n all) ≡ drop n all
+  behind_same = drop_at new (drop n all) n long
 
 -- a tree's nodes, as the mark functions ask for them
 module _ (t : Tree) (ns : List Node) (whole : postfix t ≡ ns) where
@@ -60,7 +58,7 @@ module _ {W S : Type 0} (o : Ops W) (laws : Semiring o) (passing : Leaf → S �
         next.1 ∙ ap (λ x. live o passing t x (to_root o passing (reverse w))) root,
       )
 
-  root_after : (t : Tree) (s : S) (w back : List S) → reverse (s ∷ w) ≡ back → last_weight o passing t (to_root o passing back) ≡ weight o passing t (s ∷ w)
+  pub root_after : (t : Tree) (s : S) (w back : List S) → reverse (s ∷ w) ≡ back → last_weight o passing t (to_root o passing back) ≡ weight o passing t (s ∷ w)
   root_after t s w [] e = absurd (omega (arith, sym (length-reverse (s ∷ w)) ∙ ap length e))
   root_after t s w (x ∷ back) e = root_weight o laws passing t x back ∙ ap (weight o passing t) (ap reverse (sym e) ∙ reverse-reverse (s ∷ w))
 
@@ -73,12 +71,12 @@ module _ {W S : Type 0} (o : Ops W) (laws : Semiring o) (passing : Leaf → S �
       ∙ rooted_last (marks_rooted o passing t (to_root o passing (reverse (s ∷ w)))) d ∙ root_after t s w (reverse (s ∷ w)) refl
 
   -- the front of a list holds a word's marks
-  pub word_marked : (t : Tree) (w : List S) (ms before : List W) (n : ℕ) → n ≡ needed t → ms ≡ marks_after o passing t w → Marked o passing t w before (ms ++ post_of 0 (n - 0) before)
+  pub word_marked : (t : Tree) (w : List S) (ms before : List W) (n : ℕ) → n ≡ needed t → ms ≡ marks_after o passing t w → Marked o passing t w before (ms ++ drop n before)
   word_marked t w ms before n same are =
       let long : length ms ≡ n = ap length are ∙ rooted_long (marks_rooted o passing t (to_root o passing (reverse w))) ∙ sym same in
-      let front = ap (λ k. take k (ms ++ post_of 0 (n - 0) before)) (sym same) ∙ front_new before ms n long ∙ are in
+      let front = ap (λ k. take k (ms ++ drop n before)) (sym same) ∙ front_new before ms n long ∙ are in
       record {
         everywhere = front;
-        root = root_holds t w (ms ++ post_of 0 (n - 0) before) front;
-        rest = ap (λ k. drop k (ms ++ post_of 0 (n - 0) before)) (sym same) ∙ behind_same before ms n long ∙ ap (λ k. drop k before) same;
+        root = root_holds t w (ms ++ drop n before) front;
+        rest = ap (λ k. drop k (ms ++ drop n before)) (sym same) ∙ behind_same before ms n long ∙ ap (λ k. drop k before) same;
       }

@@ -1,5 +1,5 @@
 -- A session: which symbols it holds, and on what it refuses. Assumes nothing.
-use Rattle.std.specs.Prelude.{◌≡◌, ℕ, ◌+◌, ◌≤◌, Bool, cond, ◌&&◌, List, [], ◌∷◌, ◌++◌, length, take, drop, Some, None, Ok, Err, Option, Result, ◌==◌, nat_le, nat_lt}
+use Rattle.std.specs.Prelude.{◌≡◌, ℕ, ◌+◌, ◌≤◌, Bool, cond, ◌&&◌, List, [], ◌∷◌, ◌++◌, length, take, drop, Some, None, Option, ◌==◌, nat_le, nat_lt}
 use Rattle.scale.specs.Semiring.{Ops}
 use Rattle.table.specs.declared.node.Leaf.{Leaf}
 use Rattle.table.specs.declared.table.Table.{Table}
@@ -17,15 +17,6 @@ leaves (leaf l p) = 1
 leaves (either a b) = leaves a + leaves b
 leaves (then a b) = leaves a + leaves b
 leaves (repeat a) = leaves a
-
--- the fault that an answer holds
-abbrev pub fault_in : {A : Type 0} → Result A SessionFault → Option SessionFault
-fault_in (Ok a) = None
-fault_in (Err f) = Some f
-
-abbrev pub first_fault : Option SessionFault → Option SessionFault → Option SessionFault
-first_fault None q = q
-first_fault (Some f) q = Some f
 
 -- a list too short for the table's marks
 abbrev pub room_fault : Table → ℕ → Option SessionFault

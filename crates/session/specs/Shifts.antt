@@ -1,9 +1,9 @@
 -- What the mark functions promise each other. Assumes nothing.
-use Rattle.std.specs.Prelude.{◌≡◌, ℕ, ◌+◌, ◌*◌, ◌≤◌, Bool, List, ◌∷◌, length}
+use Rattle.std.specs.Prelude.{◌≡◌, ℕ, ◌*◌, ◌≤◌, Bool, List, ◌∷◌, length}
 use Rattle.scale.specs.Semiring.{Ops}
 use Rattle.table.specs.declared.node.Leaf.{Leaf}
 use Rattle.table.specs.declared.node.Node.{Node}
-use Rattle.table.specs.Tree.{Tree, empty, leaf, either, then, repeat, size, postfix}
+use Rattle.table.specs.Tree.{Tree, empty, leaf, either, then, repeat, postfix, tree_of}
 use Rattle.session.specs.Marks.{Taken, taken, marks, live}
 
 -- a tree's operands, or the tree itself where it has none
@@ -29,12 +29,11 @@ Binary (either a b) = Unit {0}
 Binary (then a b) = Unit {0}
 Binary (repeat a) = ⊥
 
--- where the nodes of the two operands stand
-pub record Cut (t : Tree) (all n : ℕ) : Type 0 where
-  pub long : all ≡ size (left_of t) + n + 1
-  pub some_left : 1 ≤ size (left_of t)
-  pub some_right : 1 ≤ n
-  pub right_long : n ≡ size (right_of t)
+-- the nodes write out the tree
+pub record Writes (t : Tree) (ns : List Node) : Type 0 where
+  pub some : 1 ≤ length ns
+  pub tree : tree_of ns ≡ t
+  pub whole : postfix (tree_of ns) ≡ ns
 
 -- the nodes write out the tree, and there are three weights for each
 pub record Fits (t : Tree) (ns : List Node) (weights : ℕ) : Type 0 where

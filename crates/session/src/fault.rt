@@ -17,12 +17,12 @@ pub enum SessionFault {
     Full,
 }
 
-impl SessionFault {
-    // The fault's number, place and layer.
-    pub fn refusal(self) -> Refusal
-        ensures { result ≡ refusal_of self }
-    {
-        let (number, place) = match self {
+// A fault's number, place and layer.
+impl From<SessionFault> for Refusal {
+    ghost from_gives = { λ fault refusal. refusal ≡ refusal_of fault };
+
+    fn from(fault: SessionFault) -> Refusal {
+        let (number, place) = match fault {
             SessionFault::BadSymbol(held) => (9, held),
             SessionFault::ShortList(needed) => (10, needed),
             SessionFault::Full => (20, MOST_SYMBOLS),
@@ -32,5 +32,14 @@ impl SessionFault {
             place,
             layer: 3,
         }
+    }
+}
+
+impl SessionFault {
+    // The fault as it is written down.
+    pub fn refusal(self) -> Refusal
+        ensures { result ≡ refusal_of self }
+    {
+        self.into()
     }
 }

@@ -2,9 +2,8 @@
 //
 // A node's three weights stand side by side: its weight over the empty word; its last weight, the sum of the ways in
 // which it ends at the latest symbol; and its flag, one where some leaf below has a last weight that is not nothing.
-ghost use Rattle.std.specs.Prelude.{◌≡◌, ◌≤◌, not, length, if◌then◌else◌};
-ghost use Rattle.session.specs.Shifts.{Binary, Cut, Fits, Shifted, left_of, right_of};
-ghost use Rattle.table.specs.Rules.{node_at};
+ghost use Rattle.std.specs.Prelude.{◌≡◌, ◌+◌, ◌-◌, ◌≤◌, [], ◌∷◌, not, length, drop, if◌then◌else◌};
+ghost use Rattle.session.specs.Shifts.{Binary, Fits, Shifted, Writes, left_of, right_of};
 ghost use Rattle.table.specs.Tree.{either, leaf, leaf_of, postfix, repeat, then, tree_of};
 
 use scale::Scale;
@@ -13,10 +12,21 @@ use table::{EITHER, LEAF, Leaf, Node, REPEAT, Symbol, THEN};
 // How many weights a node takes.
 pub const WEIGHTS_PER_NODE: usize = 3;
 
+// Where each of a node's weights stands among its three.
+pub(crate) const EMPTY_WEIGHT: usize = 0;
+
+pub(crate) const LAST_WEIGHT: usize = 1;
+
+pub(crate) const FLAG: usize = 2;
+
 // Shifts the marks of a pattern by one symbol, and answers how many leaves were tested: just the live ones.
 //
 // A part of the pattern into which nothing comes and which has no mark below is passed over, since nothing changes there.
+//
+// Nodes and marks stay two parameters. A struct of both, lent to each call, took a tenth more instructions over 512 nodes;
+// handed over by value it gets no proof, as the caller has the marks back.
 #[cycle(shifting)]
+#[inline(always)]
 pub(crate) fn shift<W: Scale, S: Symbol>(
     nodes: &[Node],
     marks: &mut [W],
@@ -27,22 +37,22 @@ pub(crate) fn shift<W: Scale, S: Symbol>(
     ensures few { result ≤ length nodes.now }
     ensures shifted { Shifted W.Scale.ops S.Symbol.passing (tree_of nodes.now) marks.old incoming symbol marks.new result }
 {
-    let top = nodes.len() - 1;
-    if incoming.is_zero() && marks[WEIGHTS_PER_NODE * top + 2].is_zero() {
+    if incoming.is_zero() && root(marks).flag.is_zero() {
         return 0;
     }
-    if top > 0 {
+    if nodes.len() > 1 {
         return shift_inner(nodes, marks, incoming, symbol);
     }
     match nodes[0].kind {
-        LEAF => shift_leaf(nodes, marks, incoming, symbol),
+        LEAF => shift_leaf(nodes[0], marks, incoming, symbol),
         _ => 0,
     }
 }
 
-// A node with operands. A leaf takes no call of its own, since `shift` is small enough to stand in its callers.
+// A node with operands. It is the one function that calls itself: `shift` stands in its callers, so a leaf costs no call.
 #[cycle(shifting)]
-pub(crate) fn shift_inner<W: Scale, S: Symbol>(
+#[inline(never)]
+fn shift_inner<W: Scale, S: Symbol>(
     nodes: &[Node],
     marks: &mut [W],
     incoming: W,
@@ -74,15 +84,14 @@ fn shift_either<W: Scale, S: Symbol>(
     ensures few { result ≤ length nodes.now }
     ensures shifted { Shifted W.Scale.ops S.Symbol.passing (tree_of nodes.now) marks.old incoming symbol marks.new result }
 {
-    let top = nodes.len() - 1;
-    let left = top - right_len(nodes);
-    let (cut, end) = (WEIGHTS_PER_NODE * left, WEIGHTS_PER_NODE * top);
-    let a = shift(&nodes[0..left], &mut marks[0..cut], incoming, symbol);
-    let b = shift(&nodes[left..top], &mut marks[cut..end], incoming, symbol);
-    let last = either_last(marks[cut - 2], marks[end - 2]);
-    let flag = either_flag(marks[cut - 1], marks[end - 1]);
-    marks[end + 1] = last;
-    marks[end + 2] = flag;
+    let (left, right) = operands(nodes);
+    let (below, top) = marks.split_at_mut(marks.len() - WEIGHTS_PER_NODE);
+    let (first, second) = below.split_at_mut(WEIGHTS_PER_NODE * left.len());
+    let a = shift(left, first, incoming, symbol);
+    let b = shift(right, second, incoming, symbol);
+    let (left, right) = (root(first), root(second));
+    top[LAST_WEIGHT] = left.last.add(right.last);
+    top[FLAG] = either_flag(left.flag, right.flag);
     a + b
 }
 
@@ -94,16 +103,16 @@ fn shift_then<W: Scale, S: Symbol>(nodes: &[Node], marks: &mut [W], incoming: W,
     ensures few { result ≤ length nodes.now }
     ensures shifted { Shifted W.Scale.ops S.Symbol.passing (tree_of nodes.now) marks.old incoming symbol marks.new result }
 {
-    let top = nodes.len() - 1;
-    let left = top - right_len(nodes);
-    let (cut, end) = (WEIGHTS_PER_NODE * left, WEIGHTS_PER_NODE * top);
-    let onward = incoming.mul(marks[cut - 3]).add(marks[cut - 2]);
-    let a = shift(&nodes[0..left], &mut marks[0..cut], incoming, symbol);
-    let b = shift(&nodes[left..top], &mut marks[cut..end], onward, symbol);
-    let last = marks[cut - 2].mul(marks[end - 3]).add(marks[end - 2]);
-    let flag = either_flag(marks[cut - 1], marks[end - 1]);
-    marks[end + 1] = last;
-    marks[end + 2] = flag;
+    let (left, right) = operands(nodes);
+    let (below, top) = marks.split_at_mut(marks.len() - WEIGHTS_PER_NODE);
+    let (first, second) = below.split_at_mut(WEIGHTS_PER_NODE * left.len());
+    let before = root(first);
+    let onward = incoming.mul(before.empty).add(before.last);
+    let a = shift(left, first, incoming, symbol);
+    let b = shift(right, second, onward, symbol);
+    let (left, right) = (root(first), root(second));
+    top[LAST_WEIGHT] = left.last.mul(right.empty).add(right.last);
+    top[FLAG] = either_flag(left.flag, right.flag);
     a + b
 }
 
@@ -115,36 +124,62 @@ fn shift_repeat<W: Scale, S: Symbol>(
     symbol: S,
 ) -> usize
     requires fits { Fits (tree_of nodes.now) nodes.now (length marks.old) }
-    requires long { 2 ≤ length nodes.now }
     requires one { tree_of nodes.now ≡ repeat (left_of (tree_of nodes.now)) }
     ensures few { result ≤ length nodes.now }
     ensures shifted { Shifted W.Scale.ops S.Symbol.passing (tree_of nodes.now) marks.old incoming symbol marks.new result }
 {
-    let top = nodes.len() - 1;
-    let end = WEIGHTS_PER_NODE * top;
-    let onward = incoming.add(marks[end - 2]);
-    let tests = shift(&nodes[0..top], &mut marks[0..end], onward, symbol);
-    let last = marks[end - 2];
-    let flag = marks[end - 1];
-    marks[end + 1] = last;
-    marks[end + 2] = flag;
+    let (below, top) = marks.split_at_mut(marks.len() - WEIGHTS_PER_NODE);
+    let onward = incoming.add(root(below).last);
+    let tests = shift(operand(nodes), below, onward, symbol);
+    let only = root(below);
+    top[LAST_WEIGHT] = only.last;
+    top[FLAG] = only.flag;
     tests
 }
 
-// How many nodes the right operand of a pattern has.
-pub(crate) fn right_len(nodes: &[Node]) -> usize
+// The nodes of a root's two operands. The right one's root stands just before the root.
+pub(crate) fn operands(nodes: &[Node]) -> (&[Node], &[Node])
     requires whole { postfix (tree_of nodes.now) ≡ nodes.now }
     requires two { Binary (tree_of nodes.now) }
-    ensures { Cut (tree_of nodes.now) (length nodes.now) result }
+    ensures left { Writes (left_of (tree_of nodes.now)) result.0.now }
+    ensures right { Writes (right_of (tree_of nodes.now)) result.1.now }
+    ensures all { length nodes.now ≡ length result.0.now + length result.1.now + 1 }
 {
-    nodes[nodes.len() - 2].size as usize
+    let top = nodes.len() - 1;
+    let right = nodes[top - 1].size as usize;
+    nodes[..top].split_at(top - right)
 }
 
-// The last weight over two operands, of which either may end.
-fn either_last<W: Scale>(left: W, right: W) -> W
-    ensures { result ≡ W.Scale.ops.plus left right }
+// The nodes of a repeat's operand.
+pub(crate) fn operand(nodes: &[Node]) -> &[Node]
+    requires whole { postfix (tree_of nodes.now) ≡ nodes.now }
+    requires one { tree_of nodes.now ≡ repeat (left_of (tree_of nodes.now)) }
+    ensures only { Writes (left_of (tree_of nodes.now)) result.now }
+    ensures all { length nodes.now ≡ length result.now + 1 }
 {
-    left.add(right)
+    &nodes[..nodes.len() - 1]
+}
+
+// A node's three weights.
+#[derive(Clone, Copy)]
+pub(crate) struct NodeWeights<W> {
+    pub(crate) empty: W,
+    pub(crate) last: W,
+    pub(crate) flag: W,
+}
+
+// The weights of a pattern's root, which stand last.
+#[inline(always)]
+pub(crate) fn root<W: Scale>(marks: &[W]) -> NodeWeights<W>
+    requires { 3 ≤ length marks.now }
+    ensures { drop (length marks.now - 3) marks.now ≡ result.empty ∷ result.last ∷ result.flag ∷ [] }
+{
+    let top = marks.len() - WEIGHTS_PER_NODE;
+    NodeWeights {
+        empty: marks[top + EMPTY_WEIGHT],
+        last: marks[top + LAST_WEIGHT],
+        flag: marks[top + FLAG],
+    }
 }
 
 // The flag over two operands: one where either has it.
@@ -155,21 +190,19 @@ fn either_flag<W: Scale>(left: W, right: W) -> W
 }
 
 // A leaf that nothing comes into is not tested.
-fn shift_leaf<W: Scale, S: Symbol>(nodes: &[Node], marks: &mut [W], incoming: W, symbol: S) -> usize
-    requires long { (length nodes.now ≡ 1) × (length marks.old ≡ 3) }
-    requires one { tree_of nodes.now ≡ leaf (leaf_of (node_at nodes.now 0)) (node_at nodes.now 0).price }
+fn shift_leaf<W: Scale, S: Symbol>(node: Node, marks: &mut [W], incoming: W, symbol: S) -> usize
+    requires long { length marks.old ≡ 3 }
     ensures few { result ≤ 1 }
-    ensures shifted { Shifted W.Scale.ops S.Symbol.passing (tree_of nodes.now) marks.old incoming symbol marks.new result }
+    ensures shifted { Shifted W.Scale.ops S.Symbol.passing (leaf (leaf_of node) node.price) marks.old incoming symbol marks.new result }
 {
     if incoming.is_zero() {
-        marks[1] = W::zero();
-        marks[2] = W::zero();
+        marks[LAST_WEIGHT] = W::zero();
+        marks[FLAG] = W::zero();
         return 0;
     }
-    let last = leaf_mark(nodes[0], incoming, symbol);
-    let flag = leaf_flag(last);
-    marks[1] = last;
-    marks[2] = flag;
+    let last = leaf_mark(node, incoming, symbol);
+    marks[LAST_WEIGHT] = last;
+    marks[FLAG] = leaf_flag(last);
     1
 }
 

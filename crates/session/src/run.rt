@@ -1,14 +1,16 @@
 // Successions of read, weigh and restart, gone through on a new session.
+ghost use Rattle.std.specs.Option.{option_or};
 ghost use Rattle.std.specs.Prelude.{◌≡◌, List, [], length, drop, MatchResult, OnOk};
-ghost use Rattle.session.specs.Runs.{AllRight, LawOfMaps, Right, asks, held_next};
-ghost use Rattle.session.specs.Sessions.{Holds, Kept, fault_in, first_fault, room_fault};
+ghost use Rattle.std.specs.Result.{result_err};
+ghost use Rattle.session.specs.Runs.{AllRight, LawOfMaps, asks};
+ghost use Rattle.session.specs.Sessions.{Holds, Kept, room_fault};
 ghost use Rattle.session.specs.Words.{needed};
 ghost use Rattle.table.specs.Content.{tree};
 
 use crate::fault::SessionFault;
 use crate::lent::judge_weights;
 use crate::session::Session;
-use crate::turn::{Ask, Reply, Turn};
+use crate::turn::Turn;
 use scale::Scale;
 use table::{Symbol, Table};
 
@@ -21,7 +23,7 @@ pub fn run_turns<W: Scale, S: Symbol>(
     weights: &mut [W],
     turns: &mut [Turn<W, S>],
 ) -> Result<(), SessionFault>
-    ensures refused { fault_in result ≡ room_fault table.now (length weights.old) }
+    ensures refused { result_err result ≡ room_fault table.now (length weights.old) }
     ensures law { OnOk result (AllRight W.Scale.ops S.Symbol.passing S.Symbol.number S.Symbol.allowed table.now [] turns.new) }
     ensures asks { asks turns.new ≡ asks turns.old }
     ensures lent { MatchResult result (λ _. drop (needed (tree table.now)) weights.new ≡ drop (needed (tree table.now)) weights.old) (λ _. (weights.new ≡ weights.old) × (turns.new ≡ turns.old)) }
@@ -44,7 +46,7 @@ pub fn run_both<A: Scale, B: Scale, S: Symbol>(
     there: &mut [B],
     second: &mut [Turn<B, S>],
 ) -> Result<(), SessionFault>
-    ensures refused { fault_in result ≡ first_fault (room_fault table.now (length here.old)) (room_fault table.now (length there.old)) }
+    ensures refused { result_err result ≡ option_or (room_fault table.now (length here.old)) (room_fault table.now (length there.old)) }
     ensures maps { OnOk result (LawOfMaps A.Scale.ops B.Scale.ops first.new second.new) }
     ensures right { OnOk result (AllRight A.Scale.ops S.Symbol.passing S.Symbol.number S.Symbol.allowed table.now [] first.new × AllRight B.Scale.ops S.Symbol.passing S.Symbol.number S.Symbol.allowed table.now [] second.new) }
     ensures asks { (asks first.new ≡ asks first.old) × (asks second.new ≡ asks second.old) }
@@ -53,14 +55,9 @@ pub fn run_both<A: Scale, B: Scale, S: Symbol>(
     judge_weights(table, here)?;
     judge_weights(table, there)?;
     // Both lists are judged, so neither run is refused.
-    match run_turns(table, here, first) {
-        Ok(()) => {}
-        Err(_) => unreachable(),
-    }
-    match run_turns(table, there, second) {
-        Ok(()) => Ok(()),
-        Err(_) => unreachable(),
-    }
+    run_turns(table, here, first)?;
+    run_turns(table, there, second)?;
+    Ok(())
 }
 
 // One turn after another.
@@ -72,33 +69,7 @@ fn take_turns<'t, 'w, W: Scale, S: Symbol>(
     ensures asks { asks turns.new ≡ asks turns.old }
     ensures right { (w : List S) → Holds W.Scale.ops S.Symbol.passing session.old w → AllRight W.Scale.ops S.Symbol.passing S.Symbol.number S.Symbol.allowed session.old.table.now w turns.new }
 {
-    for at in 0..turns.len() {
-        let ask = turns[at].ask;
-        let reply = reply_to(session, ask);
-        turns[at] = Turn { ask, reply };
-    }
-}
-
-// Asks a session once.
-fn reply_to<'t, 'w, W: Scale, S: Symbol>(
-    session: &mut Session<'t, 'w, W, S>,
-    ask: Ask<S>,
-) -> Reply<W>
-    ensures kept { Kept session.old session.new }
-    ensures right { (w : List S) → Holds W.Scale.ops S.Symbol.passing session.old w → Right W.Scale.ops S.Symbol.passing S.Symbol.number S.Symbol.allowed session.old.table.now w ask result × Holds W.Scale.ops S.Symbol.passing session.new (held_next w ask result) }
-{
-    match ask {
-        Ask::Read(symbol) => match session.read(symbol) {
-            Ok(tests) => Reply::Took(tests),
-            Err(fault) => Reply::Refused(fault),
-        },
-        Ask::Weigh => match session.weigh() {
-            Ok(weight) => Reply::Weighs(weight),
-            Err(fault) => Reply::Refused(fault),
-        },
-        Ask::Restart => match session.restart() {
-            Ok(()) => Reply::Restarted,
-            Err(fault) => Reply::Refused(fault),
-        },
+    for turn in turns.iter_mut() {
+        turn.reply = session.ask(turn.ask);
     }
 }

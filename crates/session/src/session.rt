@@ -1,4 +1,5 @@
 // A session's type.
+use std::marker::PhantomData;
 use table::Table;
 
 mod calls;
@@ -8,6 +9,6 @@ pub struct Session<'t, 'w, W, S> {
     table: &'t Table,
     weights: &'w mut [W],
     held: usize,
-    // No symbol; it says of which kind they are.
-    kind: &'t [S],
+    // Of which kind the symbols are.
+    kind: PhantomData<S>,
 }

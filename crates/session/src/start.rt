@@ -1,11 +1,11 @@
 // The marks of a pattern before the first symbol: each node's weight over the empty word, and no mark.
-ghost use Rattle.std.specs.Prelude.{◌≡◌, length};
+ghost use Rattle.std.specs.Prelude.{◌≡◌, ◌+◌, ◌++◌, length};
 ghost use Rattle.session.specs.Marks.{empty_weight};
-ghost use Rattle.session.specs.Shifts.{Binary, Fits};
-ghost use Rattle.session.specs.Starts.{Below, Both, first_marks};
+ghost use Rattle.session.specs.Shifts.{Binary, Fits, left_of, right_of};
+ghost use Rattle.session.specs.Starts.{below_root, first_marks};
 ghost use Rattle.table.specs.Tree.{tree_of};
 
-use crate::marks::{WEIGHTS_PER_NODE, right_len};
+use crate::marks::{EMPTY_WEIGHT, FLAG, LAST_WEIGHT, WEIGHTS_PER_NODE, operand, operands, root};
 use scale::Scale;
 use table::{EITHER, LEAF, Node, REPEAT, Symbol, THEN};
 
@@ -15,33 +15,31 @@ pub(crate) fn start<W: Scale, S: Symbol>(nodes: &[Node], marks: &mut [W])
     requires fits { Fits (tree_of nodes.now) nodes.now (length marks.old) }
     ensures { marks.new ≡ first_marks W.Scale.ops S.Symbol.passing (tree_of nodes.now) }
 {
-    let end = WEIGHTS_PER_NODE * (nodes.len() - 1);
-    let empty = start_below::<W, S>(nodes, marks);
-    marks[end] = empty;
-    marks[end + 1] = W::zero();
-    marks[end + 2] = W::zero();
+    let (below, top) = marks.split_at_mut(marks.len() - WEIGHTS_PER_NODE);
+    top[EMPTY_WEIGHT] = start_below::<W, S>(nodes, below);
+    top[LAST_WEIGHT] = W::zero();
+    top[FLAG] = W::zero();
 }
 
 // Writes the first marks of the root's operands, and answers the root's weight over the empty word.
 #[cycle(starting)]
-fn start_below<W: Scale, S: Symbol>(nodes: &[Node], marks: &mut [W]) -> W
-    requires fits { Fits (tree_of nodes.now) nodes.now (length marks.old) }
+fn start_below<W: Scale, S: Symbol>(nodes: &[Node], below: &mut [W]) -> W
+    requires fits { Fits (tree_of nodes.now) nodes.now (length below.old + 3) }
     ensures value { result ≡ empty_weight W.Scale.ops S.Symbol.passing (tree_of nodes.now) }
-    ensures below { Below W.Scale.ops S.Symbol.passing (tree_of nodes.now) marks.new }
+    ensures below { below.new ≡ below_root W.Scale.ops S.Symbol.passing (tree_of nodes.now) }
 {
-    let top = nodes.len() - 1;
-    match nodes[top].kind {
+    match nodes[nodes.len() - 1].kind {
         LEAF => W::zero(),
         EITHER => {
-            let (left, right) = start_both::<W, S>(nodes, marks);
+            let (left, right) = start_both::<W, S>(nodes, below);
             left.add(right)
         }
         THEN => {
-            let (left, right) = start_both::<W, S>(nodes, marks);
+            let (left, right) = start_both::<W, S>(nodes, below);
             left.mul(right)
         }
         REPEAT => {
-            start::<W, S>(&nodes[0..top], &mut marks[0..WEIGHTS_PER_NODE * top]);
+            start::<W, S>(operand(nodes), below);
             one_way()
         }
         _ => one_way(),
@@ -50,17 +48,18 @@ fn start_below<W: Scale, S: Symbol>(nodes: &[Node], marks: &mut [W]) -> W
 
 // Writes the first marks of both operands, and answers their weights over the empty word.
 #[cycle(starting)]
-fn start_both<W: Scale, S: Symbol>(nodes: &[Node], marks: &mut [W]) -> (W, W)
-    requires fits { Fits (tree_of nodes.now) nodes.now (length marks.old) }
+fn start_both<W: Scale, S: Symbol>(nodes: &[Node], below: &mut [W]) -> (W, W)
+    requires fits { Fits (tree_of nodes.now) nodes.now (length below.old + 3) }
     requires two { Binary (tree_of nodes.now) }
-    ensures { Both W.Scale.ops S.Symbol.passing (tree_of nodes.now) marks.new result.0 result.1 }
+    ensures left { result.0 ≡ empty_weight W.Scale.ops S.Symbol.passing (left_of (tree_of nodes.now)) }
+    ensures right { result.1 ≡ empty_weight W.Scale.ops S.Symbol.passing (right_of (tree_of nodes.now)) }
+    ensures below { below.new ≡ first_marks W.Scale.ops S.Symbol.passing (left_of (tree_of nodes.now)) ++ first_marks W.Scale.ops S.Symbol.passing (right_of (tree_of nodes.now)) }
 {
-    let top = nodes.len() - 1;
-    let left = top - right_len(nodes);
-    let (cut, end) = (WEIGHTS_PER_NODE * left, WEIGHTS_PER_NODE * top);
-    start::<W, S>(&nodes[0..left], &mut marks[0..cut]);
-    start::<W, S>(&nodes[left..top], &mut marks[cut..end]);
-    (marks[cut - 3], marks[end - 3])
+    let (left, right) = operands(nodes);
+    let (first, second) = below.split_at_mut(WEIGHTS_PER_NODE * left.len());
+    start::<W, S>(left, first);
+    start::<W, S>(right, second);
+    (root(first).empty, root(second).empty)
 }
 
 // An empty node and a repeat read the empty word in one way; a repeat has no empty part.

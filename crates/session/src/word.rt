@@ -1,14 +1,15 @@
 // The marks of a whole word.
 ghost use Rattle.std.specs.Prelude.{◌≡◌, ◌<◌, ◌≤◌, [], length, if◌then◌else◌, MatchResult, nat_eq};
+ghost use Rattle.std.specs.Result.{result_err};
 ghost use Rattle.session.specs.Shifts.{Fits};
-ghost use Rattle.session.specs.Sessions.{fault_in, room_fault};
+ghost use Rattle.session.specs.Sessions.{room_fault};
 ghost use Rattle.session.specs.Words.{Follows, Marked, marks_after, needed};
 ghost use Rattle.table.specs.Content.{tree};
 ghost use Rattle.table.specs.Tree.{tree_of};
 
 use crate::fault::SessionFault;
 use crate::lent::{judge_room, needed_by};
-use crate::marks::{shift, shift_inner};
+use crate::marks::shift;
 use crate::start::start;
 use scale::Scale;
 use table::{Node, Symbol, Table};
@@ -23,12 +24,12 @@ pub fn mark_word<W: Scale, S: Symbol>(
     word: &[S],
     weights: &mut [W],
 ) -> Result<(), SessionFault>
-    ensures refused { fault_in result ≡ room_fault table.now (length weights.old) }
+    ensures refused { result_err result ≡ room_fault table.now (length weights.old) }
     ensures after { MatchResult result (λ _. Marked W.Scale.ops S.Symbol.passing (tree table.now) word.now weights.old weights.new) (λ _. weights.new ≡ weights.old) }
 {
     let needed = needed_by(table);
     judge_room(needed, weights.len())?;
-    mark_symbols(table.nodes(), word, &mut weights[0..needed]);
+    mark_symbols(table.nodes(), word, &mut weights[..needed]);
     Ok(())
 }
 
@@ -45,8 +46,8 @@ fn mark_symbols<W: Scale, S: Symbol>(nodes: &[Node], word: &[S], marks: &mut [W]
     ensures { marks.new ≡ marks_after W.Scale.ops S.Symbol.passing (tree_of nodes.now) word.now }
 {
     start::<W, S>(nodes, marks);
-    for at in 0..word.len() {
-        mark_symbol(nodes, marks, at, word[at]);
+    for (held, symbol) in word.iter().enumerate() {
+        mark_symbol(nodes, marks, held, *symbol);
     }
 }
 
@@ -60,12 +61,7 @@ pub(crate) fn mark_symbol<W: Scale, S: Symbol>(
     requires fits { Fits (tree_of nodes.now) nodes.now (length marks.old) }
     ensures { Follows W.Scale.ops S.Symbol.passing (tree_of nodes.now) marks.old held symbol marks.new result }
 {
-    let incoming = to_root(held);
-    // With a caller besides `shift`, the compiler keeps `shift_inner` a function and puts `shift`, leaves and all, in its callers.
-    if nodes.len() > 1 {
-        return shift_inner(nodes, marks, incoming, symbol);
-    }
-    shift(nodes, marks, incoming, symbol)
+    shift(nodes, marks, to_root(held), symbol)
 }
 
 // What comes in at the root: one with the first symbol, nothing later.

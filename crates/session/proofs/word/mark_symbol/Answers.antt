@@ -2,8 +2,5 @@ use Rattle.session.proofs.Wording.{follows}
 use Rattle.session.proofs.word.mark_symbol.Goals as goal
 use Rattle.table.specs.Tree.{tree_of}
 
-pub returns-then-nodes-gt1 : goal.returns-then-nodes-gt1
-returns-then-nodes-gt1 g c = follows g.W.Scale.ops g.W.Scale.laws g.S.Symbol.passing (tree_of c.args.nodes.now) c.args.marks.now c.args.held c.args.symbol _ _ _ c.to_root-incoming.ensures c.shift_inner.ensures.shifted
-
 pub returns : goal.returns
-returns g c = follows g.W.Scale.ops g.W.Scale.laws g.S.Symbol.passing (tree_of c.args.nodes.now) c.args.marks.now c.args.held c.args.symbol _ _ _ c.to_root-incoming.ensures c.shift.ensures.shifted
+returns g c = follows g.W.Scale.ops g.W.Scale.laws g.S.Symbol.passing (tree_of c.args.nodes.now) c.args.marks.now c.args.held c.args.symbol _ _ _ c.to_root.ensures c.shift.ensures.shifted
