@@ -1,6 +1,10 @@
 -- What a list of nodes says of its tree: the root's kind, and where the operands' nodes stand. Assumes nothing.
-use Rattle.std.proofs.Common.{◌≡◌, ℕ, ◌+◌, ◌-◌, ◌*◌, ◌≤◌, List, [], ◌∷◌, ◌++◌, length, take, drop, sym, refl, ap, ◌∙◌, append_assoc, append-nil, arith, length-append}
+use Rattle.std.proofs.Common.{◌≡◌, ℕ, zero, suc, ◌+◌, ◌-◌, ◌*◌, ◌≤◌, Ok, Err, Result, IsOk, List, [], ◌∷◌, ◌++◌, length, take, drop, sym, refl, ap, ◌∙◌, append_assoc, append-nil, arith, length-append}
 use Rattle.table.specs.declared.node.Node.{Node}
+use Rattle.table.specs.declared.node.NodeKind.{NodeKind}
+use Rattle.table.specs.declared.node.NodeKind.TheVariants.{Empty, Leaf, Either, Then, Repeat}
+use Rattle.table.specs.declared.node.UnknownKind.{UnknownKind}
+use Rattle.table.specs.NodeKinds.{number_of, Decodes}
 use Rattle.table.specs.Rules.{node_at}
 use Rattle.table.specs.Tree.{Tree, empty, leaf, either, then, repeat, size, leaf_of, postfix, tree_of}
 use Rattle.table.proofs.Postfix.{tree_alone, postfix_tree_of, size_pos, length_postfix, root, root_at, root_size}
@@ -16,6 +20,27 @@ root_last t ns e =
 module _ (t : Tree) (ns : List Node) (e : postfix t ≡ ns) where
   pub kind_is : (k : ℕ) → (node_at ns (length ns - 1)).kind ≡ k → (root t).kind ≡ k
   kind_is k h = ap (λ n. n.kind) (sym (root_last t ns e)) ∙ h
+
+-- a kind by its number
+abbrev named : ℕ → NodeKind
+named zero = Empty
+named (suc zero) = Leaf
+named (suc (suc zero)) = Either
+named (suc (suc (suc zero))) = Then
+named (suc (suc (suc (suc k)))) = Repeat
+
+named_number : (k : NodeKind) → named (number_of k) ≡ k
+named_number Empty = refl
+named_number Leaf = refl
+named_number Either = refl
+named_number Then = refl
+named_number Repeat = refl
+
+-- the last node's kind is the root's
+pub root_is : (t : Tree) (ns : List Node) → postfix t ≡ ns → (k j : NodeKind) → (node_at ns (length ns - 1)).kind ≡ number_of k → (root t).kind ≡ number_of j → k ≡ j
+root_is t ns e k j h r =
+    let same : number_of k ≡ number_of j = sym h ∙ ap (λ n. n.kind) (root_last t ns e) ∙ r in
+    sym (named_number k) ∙ ap named same ∙ named_number j
 
 -- a root of kind 1 is a leaf's
 pub leaf_root : (t : Tree) → (root t).kind ≡ 1 → t ≡ leaf (leaf_of (root t)) (root t).price
@@ -46,13 +71,24 @@ repeat_root (either a b) h = absurd (omega arith)
 repeat_root (then a b) h = absurd (omega arith)
 repeat_root (repeat a) h = refl
 
--- any other root is an empty node's
-pub empty_root : (t : Tree) → ((root t).kind ≡ 1 → ⊥) → ((root t).kind ≡ 2 → ⊥) → ((root t).kind ≡ 3 → ⊥) → ((root t).kind ≡ 4 → ⊥) → t ≡ empty
-empty_root empty a b c d = refl
-empty_root (leaf l p) a b c d = absurd (a refl)
-empty_root (either x y) a b c d = absurd (b refl)
-empty_root (then x y) a b c d = absurd (c refl)
-empty_root (repeat x) a b c d = absurd (d refl)
+pub empty_root : (t : Tree) → (root t).kind ≡ 0 → t ≡ empty
+empty_root empty h = refl
+empty_root (leaf l p) h = absurd (omega arith)
+empty_root (either a b) h = absurd (omega arith)
+empty_root (then a b) h = absurd (omega arith)
+empty_root (repeat a) h = absurd (omega arith)
+
+-- a root is of a known kind
+root_known : (t : Tree) → (root t).kind ≤ 4
+root_known empty = omega arith
+root_known (leaf l p) = omega arith
+root_known (either a b) = omega arith
+root_known (then a b) = omega arith
+root_known (repeat a) = omega arith
+
+pub root_decoded : (t : Tree) (ns : List Node) → postfix t ≡ ns → (r : Result NodeKind UnknownKind) → Decodes (node_at ns (length ns - 1)).kind r → IsOk r
+root_decoded t ns e (Ok k) d = refl
+root_decoded t ns e (Err u) d = absurd (omega (arith, d.1, ap (λ n. n.kind) (root_last t ns e), root_known t))
 
 -- a lone root that is no leaf's
 pub empty_single : (t : Tree) → size t ≡ 1 → ((root t).kind ≡ 1 → ⊥) → t ≡ empty

@@ -4,10 +4,12 @@
 // which it ends at the latest symbol; and its flag, one where some leaf below has a last weight that is not nothing.
 ghost use Rattle.std.specs.Prelude.{◌≡◌, ◌+◌, ◌-◌, ◌≤◌, [], ◌∷◌, not, length, drop, if◌then◌else◌};
 ghost use Rattle.session.specs.Shifts.{Binary, Fits, Shifted, Writes, left_of, right_of};
+ghost use Rattle.table.specs.NodeKinds.{number_of};
+ghost use Rattle.table.specs.Rules.{node_at};
 ghost use Rattle.table.specs.Tree.{either, leaf, leaf_of, postfix, repeat, then, tree_of};
 
 use scale::Scale;
-use table::{EITHER, LEAF, Leaf, Node, REPEAT, Symbol, THEN};
+use table::{Leaf, Node, NodeKind, Symbol};
 
 // How many weights a node takes.
 pub const WEIGHTS_PER_NODE: usize = 3;
@@ -43,8 +45,8 @@ pub(crate) fn shift<W: Scale, S: Symbol>(
     if nodes.len() > 1 {
         return shift_inner(nodes, marks, incoming, symbol);
     }
-    match nodes[0].kind {
-        LEAF => shift_leaf(nodes[0], marks, incoming, symbol),
+    match root_kind(nodes) {
+        NodeKind::Leaf => shift_leaf(nodes[0], marks, incoming, symbol),
         _ => 0,
     }
 }
@@ -63,10 +65,10 @@ fn shift_inner<W: Scale, S: Symbol>(
     ensures few { result ≤ length nodes.now }
     ensures shifted { Shifted W.Scale.ops S.Symbol.passing (tree_of nodes.now) marks.old incoming symbol marks.new result }
 {
-    match nodes[nodes.len() - 1].kind {
-        EITHER => shift_either(nodes, marks, incoming, symbol),
-        THEN => shift_then(nodes, marks, incoming, symbol),
-        REPEAT => shift_repeat(nodes, marks, incoming, symbol),
+    match root_kind(nodes) {
+        NodeKind::Either => shift_either(nodes, marks, incoming, symbol),
+        NodeKind::Then => shift_then(nodes, marks, incoming, symbol),
+        NodeKind::Repeat => shift_repeat(nodes, marks, incoming, symbol),
         // No other node has operands.
         _ => 0,
     }
@@ -135,6 +137,16 @@ fn shift_repeat<W: Scale, S: Symbol>(
     top[LAST_WEIGHT] = only.last;
     top[FLAG] = only.flag;
     tests
+}
+
+// The kind of a pattern's root. A checked list has known kinds only.
+#[inline(always)]
+pub(crate) fn root_kind(nodes: &[Node]) -> NodeKind
+    requires some { 1 ≤ length nodes.now }
+    requires whole { postfix (tree_of nodes.now) ≡ nodes.now }
+    ensures { (node_at nodes.now (length nodes.now - 1)).kind ≡ number_of result }
+{
+    NodeKind::try_from(nodes[nodes.len() - 1].kind).unwrap()
 }
 
 // The nodes of a root's two operands. The right one's root stands just before the root.
@@ -210,12 +222,7 @@ fn shift_leaf<W: Scale, S: Symbol>(node: Node, marks: &mut [W], incoming: W, sym
 fn leaf_mark<W: Scale, S: Symbol>(node: Node, incoming: W, symbol: S) -> W
     ensures { result ≡ (if S.Symbol.passing (leaf_of node) symbol then W.Scale.ops.times incoming (W.Scale.ops.priced node.price) else W.Scale.ops.nothing) }
 {
-    let leaf = Leaf {
-        tag: node.tag,
-        low: node.low,
-        high: node.high,
-    };
-    if symbol.passes(leaf) {
+    if symbol.passes(Leaf::from(node)) {
         incoming.mul(W::of_price(node.price))
     } else {
         W::zero()

@@ -5,9 +5,11 @@ ghost use Rattle.session.specs.Shifts.{Binary, Fits, left_of, right_of};
 ghost use Rattle.session.specs.Starts.{below_root, first_marks};
 ghost use Rattle.table.specs.Tree.{tree_of};
 
-use crate::marks::{EMPTY_WEIGHT, FLAG, LAST_WEIGHT, WEIGHTS_PER_NODE, operand, operands, root};
+use crate::marks::{
+    EMPTY_WEIGHT, FLAG, LAST_WEIGHT, WEIGHTS_PER_NODE, operand, operands, root, root_kind,
+};
 use scale::Scale;
-use table::{EITHER, LEAF, Node, REPEAT, Symbol, THEN};
+use table::{Node, NodeKind, Symbol};
 
 // Writes the first marks of a pattern.
 #[cycle(starting)]
@@ -28,21 +30,21 @@ fn start_below<W: Scale, S: Symbol>(nodes: &[Node], below: &mut [W]) -> W
     ensures value { result ≡ empty_weight W.Scale.ops S.Symbol.passing (tree_of nodes.now) }
     ensures below { below.new ≡ below_root W.Scale.ops S.Symbol.passing (tree_of nodes.now) }
 {
-    match nodes[nodes.len() - 1].kind {
-        LEAF => W::zero(),
-        EITHER => {
+    match root_kind(nodes) {
+        NodeKind::Leaf => W::zero(),
+        NodeKind::Either => {
             let (left, right) = start_both::<W, S>(nodes, below);
             left.add(right)
         }
-        THEN => {
+        NodeKind::Then => {
             let (left, right) = start_both::<W, S>(nodes, below);
             left.mul(right)
         }
-        REPEAT => {
+        NodeKind::Repeat => {
             start::<W, S>(operand(nodes), below);
             one_way()
         }
-        _ => one_way(),
+        NodeKind::Empty => one_way(),
     }
 }
 

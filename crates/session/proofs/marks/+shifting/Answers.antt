@@ -1,9 +1,11 @@
 use Rattle.std.proofs.Common.{◌≡◌, ◌*◌, length, take, drop, sym, ap, ◌∙◌, arith}
+use Rattle.table.specs.declared.node.NodeKind.TheVariants.{Leaf, Either, Then, Repeat}
+use Rattle.table.specs.NodeKinds.{number_of}
 use Rattle.table.specs.Tree.{tree_of, leaf, leaf_of}
 use Rattle.table.proofs.Postfix.{length_postfix}
 use Rattle.session.specs.Shifts.{left_of, right_of}
 use Rattle.session.proofs.Arms.{of_tree, either_arm, then_arm, repeat_arm, empty_arm, still_arm}
-use Rattle.session.proofs.Shapes.{leaf_root, either_root, then_root, repeat_root, empty_single, has_operands, kind_is, lone_root, lone_size, root_last, writes_fit, writes_size}
+use Rattle.session.proofs.Shapes.{leaf_root, either_root, then_root, repeat_root, empty_single, has_operands, kind_is, lone_root, lone_size, root_is, writes_fit, writes_size}
 use Rattle.session.proofs.marks.+shifting.Goals as goal
 
 pub shift_either-shift-a-requires : goal.shift_either-shift-a-requires
@@ -83,33 +85,36 @@ pub shift-returns-then-is_zero-2-clause-shifted : goal.shift-returns-then-is_zer
 shift-returns-then-is_zero-2-clause-shifted g t c =
     still_arm g.W.Scale.ops g.W.Scale.laws g.W.Scale.tells g.S.Symbol.passing (tree_of c.args.nodes.now) c.args.incoming c.args.symbol c.args.marks.now _ _ _ c.root.ensures (sym c.is_zero.ensures ∙ c.if-is_zero.true) (sym c.is_zero-then-is_zero.ensures ∙ c.if-is_zero-2.true)
 
-pub shift-returns-in-1-clause-shifted : goal.shift-returns-in-1-clause-shifted
-shift-returns-in-1-clause-shifted g t c =
+pub shift-returns-in-Leaf-clause-shifted : goal.shift-returns-in-Leaf-clause-shifted
+shift-returns-in-Leaf-clause-shifted g t c =
     let nodes = c.args.nodes.now in
     let first = lone_root (tree_of nodes) nodes c.requires.fits.whole (omega (arith, c.requires.fits.some, c.if-nodes-gt1.false)) in
-    of_tree g.W.Scale.ops g.W.Scale.laws g.W.Scale.tells g.S.Symbol.passing (leaf_root (tree_of nodes) (ap (λ n. n.kind) first ∙ c.in-1.is) ∙ (λ i. leaf (leaf_of (first i)) (first i).price)) _ _ _ _ _ c.shift_leaf.ensures.shifted
+    of_tree g.W.Scale.ops g.W.Scale.laws g.W.Scale.tells g.S.Symbol.passing (leaf_root (tree_of nodes) (kind_is (tree_of nodes) nodes c.requires.fits.whole 1 (c.root_kind.ensures ∙ ap number_of c.in-Leaf.is)) ∙ (λ i. leaf (leaf_of (first i)) (first i).price)) _ _ _ _ _ c.shift_leaf.ensures.shifted
 
 pub shift-returns-in_default-clause-shifted : goal.shift-returns-in_default-clause-shifted
 shift-returns-in_default-clause-shifted g t c =
     let nodes = c.args.nodes.now in
+    let whole = c.requires.fits.whole in
     let long : length nodes ≡ 1 = omega (arith, c.requires.fits.some, c.if-nodes-gt1.false) in
-    let kind = ap (λ n. n.kind) (sym (lone_root (tree_of nodes) nodes c.requires.fits.whole long)) in
-    let is = empty_single (tree_of nodes) (lone_size (tree_of nodes) nodes c.requires.fits.whole long) (λ e. let k = kind ∙ e in omega arith) in
+    let is = empty_single (tree_of nodes) (lone_size (tree_of nodes) nodes whole long) (λ e. c.in_default.not-Leaf (root_is (tree_of nodes) nodes whole _ Leaf c.root_kind.ensures e)) in
     of_tree g.W.Scale.ops g.W.Scale.laws g.W.Scale.tells g.S.Symbol.passing is _ _ _ _ _ (empty_arm g.W.Scale.ops g.W.Scale.laws g.W.Scale.tells g.S.Symbol.passing c.args.incoming c.args.symbol c.args.marks.now)
 
 pub shift_inner-shift_either-requires : goal.shift_inner-shift_either-requires
 shift_inner-shift_either-requires g t c κs w =
-    (omega (arith, c.decreases), (w.0, (w.1, (c.requires.fits, either_root _ (kind_is _ c.args.nodes.now c.requires.fits.whole 2 c.in-2.is)))))
+    (omega (arith, c.decreases), (w.0, (w.1, (c.requires.fits, either_root _ (kind_is _ c.args.nodes.now c.requires.fits.whole 2 (c.root_kind.ensures ∙ ap number_of c.in-Either.is))))))
 
 pub shift_inner-shift_then-requires : goal.shift_inner-shift_then-requires
 shift_inner-shift_then-requires g t c κs w =
-    (omega (arith, c.decreases), (w.0, (w.1, (c.requires.fits, then_root _ (kind_is _ c.args.nodes.now c.requires.fits.whole 3 c.in-3.is)))))
+    (omega (arith, c.decreases), (w.0, (w.1, (c.requires.fits, then_root _ (kind_is _ c.args.nodes.now c.requires.fits.whole 3 (c.root_kind.ensures ∙ ap number_of c.in-Then.is))))))
 
 pub shift_inner-shift_repeat-requires : goal.shift_inner-shift_repeat-requires
 shift_inner-shift_repeat-requires g t c κs w =
-    (omega (arith, c.decreases), (w.0, (w.1, (c.requires.fits, repeat_root _ (kind_is _ c.args.nodes.now c.requires.fits.whole 4 c.in-4.is)))))
+    (omega (arith, c.decreases), (w.0, (w.1, (c.requires.fits, repeat_root _ (kind_is _ c.args.nodes.now c.requires.fits.whole 4 (c.root_kind.ensures ∙ ap number_of c.in-Repeat.is))))))
 
 pub shift_inner-returns-in_default : goal.shift_inner-returns-in_default
 shift_inner-returns-in_default g t c =
-    let kind = ap (λ n. n.kind) (root_last (tree_of c.args.nodes.now) c.args.nodes.now c.requires.fits.whole) in
-    absurd (has_operands (tree_of c.args.nodes.now) (omega (arith, c.requires.long, ap length c.requires.fits.whole, length_postfix (tree_of c.args.nodes.now))) (λ e. let k = kind ∙ e in omega arith) (λ e. let k = kind ∙ e in omega arith) (λ e. let k = kind ∙ e in omega arith))
+    let nodes = c.args.nodes.now in
+    let whole = c.requires.fits.whole in
+    let named = root_is (tree_of nodes) nodes whole _ in
+    absurd (has_operands (tree_of nodes) (omega (arith, c.requires.long, ap length whole, length_postfix (tree_of nodes)))
+    (λ e. c.in_default.not-Either (named Either c.root_kind.ensures e)) (λ e. c.in_default.not-Then (named Then c.root_kind.ensures e)) (λ e. c.in_default.not-Repeat (named Repeat c.root_kind.ensures e)))

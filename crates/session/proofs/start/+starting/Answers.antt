@@ -1,4 +1,5 @@
 use Rattle.std.proofs.Common.{◌*◌, ◌++◌, length, sym, ap, ◌∙◌, subst, arith}
+use Rattle.table.specs.NodeKinds.{number_of}
 use Rattle.table.specs.Tree.{tree_of}
 use Rattle.table.proofs.Postfix.{length_postfix}
 use Rattle.readings.proofs.Sums.{weight_empty, weight_stop}
@@ -6,7 +7,7 @@ use Rattle.session.specs.Marks.{empty_weight}
 use Rattle.session.specs.Shifts.{Binary, left_of, right_of}
 use Rattle.session.specs.Starts.{below_root, first_marks}
 use Rattle.session.proofs.Endings.{empty_either, empty_then}
-use Rattle.session.proofs.Shapes.{leaf_root, either_root, then_root, repeat_root, empty_root, kind_is, root_last, writes_fit}
+use Rattle.session.proofs.Shapes.{leaf_root, either_root, then_root, repeat_root, empty_root, kind_is, writes_fit}
 use Rattle.session.proofs.Starting.{root_started, none_below, empty_read}
 use Rattle.session.proofs.start.+starting.Goals as goal
 
@@ -17,68 +18,67 @@ start-returns g t c =
 
 pub start_below-start_both-left-requires : goal.start_below-start_both-left-requires
 start_below-start_both-left-requires g t c κs w =
-    let is = either_root _ (kind_is _ c.args.nodes.now c.requires.fits.whole 2 c.in-2.is) in
+    let is = either_root _ (kind_is _ c.args.nodes.now c.requires.fits.whole 2 (c.root_kind.ensures ∙ ap number_of c.in-Either.is)) in
     (omega (arith, c.decreases), (w.0, (w.1, (c.requires.fits, subst Binary (sym is) tt))))
 
-pub start_below-start_both-left-requires-in-3 : goal.start_below-start_both-left-requires-in-3
-start_below-start_both-left-requires-in-3 g t c κs w =
-    let is = then_root _ (kind_is _ c.args.nodes.now c.requires.fits.whole 3 c.in-3.is) in
+pub start_below-start_both-left-requires-in-Then : goal.start_below-start_both-left-requires-in-Then
+start_below-start_both-left-requires-in-Then g t c κs w =
+    let is = then_root _ (kind_is _ c.args.nodes.now c.requires.fits.whole 3 (c.root_kind.ensures ∙ ap number_of c.in-Then.is)) in
     (omega (arith, c.decreases), (w.0, (w.1, (c.requires.fits, subst Binary (sym is) tt))))
 
 pub start_below-start-requires : goal.start_below-start-requires
 start_below-start-requires g t c κs w =
     (omega (arith, c.decreases, c.operand.ensures.all), (w.0, (w.1, writes_fit c.operand.ensures.only _ (omega (arith, c.requires.fits.long, c.operand.ensures.all)))))
 
-pub start_below-returns-in-1 : goal.start_below-returns-in-1
-start_below-returns-in-1 g t c =
+pub start_below-returns-in-Leaf : goal.start_below-returns-in-Leaf
+start_below-returns-in-Leaf g t c =
     let nodes = c.args.nodes.now in
     let o = g.W.Scale.ops in
-    let is = leaf_root (tree_of nodes) (kind_is (tree_of nodes) nodes c.requires.fits.whole 1 c.in-1.is) in
+    let is = leaf_root (tree_of nodes) (kind_is (tree_of nodes) nodes c.requires.fits.whole 1 (c.root_kind.ensures ∙ ap number_of c.in-Leaf.is)) in
     record {
       value = c.zero.ensures ∙ ap (empty_weight o g.S.Symbol.passing) (sym is);
       below = none_below o g.W.Scale.tells g.S.Symbol.passing (tree_of nodes) c.args.below.now (ap (below_root o g.S.Symbol.passing) is) (c.requires.fits.long ∙ ap (λ k. 3 * k) (ap length (sym c.requires.fits.whole) ∙ length_postfix (tree_of nodes)));
     }
 
-pub start_below-returns-in-2 : goal.start_below-returns-in-2
-start_below-returns-in-2 g t c =
+pub start_below-returns-in-Either : goal.start_below-returns-in-Either
+start_below-returns-in-Either g t c =
     let nodes = c.args.nodes.now in
     let o = g.W.Scale.ops in
-    let is = either_root (tree_of nodes) (kind_is (tree_of nodes) nodes c.requires.fits.whole 2 c.in-2.is) in
+    let is = either_root (tree_of nodes) (kind_is (tree_of nodes) nodes c.requires.fits.whole 2 (c.root_kind.ensures ∙ ap number_of c.in-Either.is)) in
     let both = c.start_both-left.ensures in
     record {
       value = c.add.ensures ∙ (λ k. o.plus (both.left k) (both.right k)) ∙ sym (empty_either o g.W.Scale.laws g.S.Symbol.passing (left_of (tree_of nodes)) (right_of (tree_of nodes))) ∙ ap (empty_weight o g.S.Symbol.passing) (sym is);
       below = both.below ∙ ap (below_root o g.S.Symbol.passing) (sym is);
     }
 
-pub start_below-returns-in-3 : goal.start_below-returns-in-3
-start_below-returns-in-3 g t c =
+pub start_below-returns-in-Then : goal.start_below-returns-in-Then
+start_below-returns-in-Then g t c =
     let nodes = c.args.nodes.now in
     let o = g.W.Scale.ops in
-    let is = then_root (tree_of nodes) (kind_is (tree_of nodes) nodes c.requires.fits.whole 3 c.in-3.is) in
-    let both = c.start_both-left-in-3.ensures in
+    let is = then_root (tree_of nodes) (kind_is (tree_of nodes) nodes c.requires.fits.whole 3 (c.root_kind.ensures ∙ ap number_of c.in-Then.is)) in
+    let both = c.start_both-left-in-Then.ensures in
     record {
       value = c.mul.ensures ∙ (λ k. o.times (both.left k) (both.right k)) ∙ sym (empty_then o g.W.Scale.laws g.S.Symbol.passing (left_of (tree_of nodes)) (right_of (tree_of nodes))) ∙ ap (empty_weight o g.S.Symbol.passing) (sym is);
       below = both.below ∙ ap (below_root o g.S.Symbol.passing) (sym is);
     }
 
-pub start_below-returns-in-4 : goal.start_below-returns-in-4
-start_below-returns-in-4 g t c =
+pub start_below-returns-in-Repeat : goal.start_below-returns-in-Repeat
+start_below-returns-in-Repeat g t c =
     let nodes = c.args.nodes.now in
     let o = g.W.Scale.ops in
-    let is = repeat_root (tree_of nodes) (kind_is (tree_of nodes) nodes c.requires.fits.whole 4 c.in-4.is) in
+    let is = repeat_root (tree_of nodes) (kind_is (tree_of nodes) nodes c.requires.fits.whole 4 (c.root_kind.ensures ∙ ap number_of c.in-Repeat.is)) in
     record {
       value = c.one_way.ensures ∙ sym (weight_stop o g.W.Scale.laws g.S.Symbol.passing (left_of (tree_of nodes))) ∙ ap (empty_weight o g.S.Symbol.passing) (sym is);
       below = c.start.ensures ∙ ap (first_marks o g.S.Symbol.passing) c.operand.ensures.only.tree ∙ ap (below_root o g.S.Symbol.passing) (sym is);
     }
 
-pub start_below-returns-in_default : goal.start_below-returns-in_default
-start_below-returns-in_default g t c =
+pub start_below-returns-in-Empty : goal.start_below-returns-in-Empty
+start_below-returns-in-Empty g t c =
     let nodes = c.args.nodes.now in
     let o = g.W.Scale.ops in
-    let kind = ap (λ n. n.kind) (root_last (tree_of nodes) nodes c.requires.fits.whole) in
-    let is = empty_root (tree_of nodes) (λ e. let k = kind ∙ e in omega arith) (λ e. let k = kind ∙ e in omega arith) (λ e. let k = kind ∙ e in omega arith) (λ e. let k = kind ∙ e in omega arith) in
+    let is = empty_root (tree_of nodes) (kind_is (tree_of nodes) nodes c.requires.fits.whole 0 (c.root_kind.ensures ∙ ap number_of c.in-Empty.is)) in
     record {
-      value = c.one_way-in_default.ensures ∙ sym (weight_empty o g.W.Scale.laws g.S.Symbol.passing) ∙ ap (empty_weight o g.S.Symbol.passing) (sym is);
+      value = c.one_way-in-Empty.ensures ∙ sym (weight_empty o g.W.Scale.laws g.S.Symbol.passing) ∙ ap (empty_weight o g.S.Symbol.passing) (sym is);
       below = none_below o g.W.Scale.tells g.S.Symbol.passing (tree_of nodes) c.args.below.now (ap (below_root o g.S.Symbol.passing) is) (c.requires.fits.long ∙ ap (λ k. 3 * k) (ap length (sym c.requires.fits.whole) ∙ length_postfix (tree_of nodes)));
     }
 
