@@ -1,7 +1,9 @@
 -- What stands below a text, by its table or its fault. Assumes nothing.
-use Rattle.std.proofs.Common.{◌≡◌, ℕ, List, ◌++◌, length, IfOk, Ok, Err, string_bytes, Result, String, sym, ap, ◌∙◌, arith}
-use Rattle.picture.specs.Outline.{Outlined, counted, outlined}
-use Rattle.picture.specs.Report.{Below, ByAnswer, below, refused_lines}
+use Rattle.std.proofs.Common.{◌≡◌, ℕ, List, ◌++◌, length, map, IfOk, Ok, Err, string_bytes, Result, String, sym, refl, ap, ◌∙◌, arith}
+use Rattle.picture.proofs.Trees.{outline_whole}
+use Rattle.picture.specs.Outline.{counted, outlined, outline_of}
+use Rattle.picture.specs.Words.{shown_byte}
+use Rattle.picture.specs.Report.{Below, ByAnswer, Reported, below, page, refused_lines}
 use Rattle.std.proofs.lemmas.Result.{IfOk-weaker}
 use Rattle.std.specs.declared.alloc.AllocError.{AllocError}
 use Rattle.std.specs.declared.alloc.Global.{Global}
@@ -30,10 +32,13 @@ alone s out h =
       only = λ x k. k.2 ∙ same_below s k.0 h.0 k.1 h.1 (one_answer s 512 k.0 h.0 k.1 h.1) ∙ sym h.2;
     }
 
-pub below_nodes : (r : Result (String Global) AllocError) (s : List ℕ) (t : Table) (nodes : List Node) → Tabled s t → nodes ≡ (content t).nodes → IfOk r (λ x. Outlined nodes 0 (counted (length nodes)) (string_bytes x)) → IfOk r (λ x. Below s (string_bytes x))
-below_nodes r s t nodes h e m =
+pub reported_nodes : (r : Result (String Global) AllocError) (title s : List ℕ) (t : Table) (nodes : List Node) → Tabled s t → nodes ≡ (content t).nodes → IfOk r (λ x. string_bytes x ≡ page title (map shown_byte s) (counted (length nodes) ++ outline_of 0 nodes)) → IfOk r (λ x. Reported title s (string_bytes x))
+reported_nodes r title s t nodes h e m =
     let q = h.means.0 in
-    IfOk-weaker r _ _ (λ x o. alone s (string_bytes x) (Ok (length (content t).nodes), h.means, o.some (tree q) (h.nodes ∙ sym e) ∙ ap (λ l. counted (length l) ++ outlined 0 (tree q)) e)) m
+    let under = counted (length nodes) ++ outline_of 0 nodes in
+    let same : under ≡ counted (length (content t).nodes) ++ outlined 0 (tree q) =
+    ap (λ l. counted (length l) ++ outline_of 0 l) e ∙ ap (λ x. counted (length (content t).nodes) ++ x) (outline_whole (tree q) (content t).nodes 0 h.nodes) in
+    IfOk-weaker r _ _ (λ x w. (under, alone s under (Ok (length (content t).nodes), h.means, same), w)) m
 
-pub below_fault : (r : Result (String Global) AllocError) (s : List ℕ) (f : TextFault) → Answers s 512 (Err f) → IfOk r (λ x. string_bytes x ≡ refused_lines s f) → IfOk r (λ x. Below s (string_bytes x))
-below_fault r s f h m = IfOk-weaker r _ _ (λ x e. alone s (string_bytes x) (Err f, h, e)) m
+pub reported_fault : (r : Result (String Global) AllocError) (title s : List ℕ) (f : TextFault) → Answers s 512 (Err f) → IfOk r (λ x. string_bytes x ≡ page title (map shown_byte s) (refused_lines s f)) → IfOk r (λ x. Reported title s (string_bytes x))
+reported_fault r title s f h m = IfOk-weaker r _ _ (λ x w. (refused_lines s f, alone s (refused_lines s f) (Err f, h, refl), w)) m

@@ -1,7 +1,7 @@
 -- A tree as an outline. Assumes nothing.
 use Rattle.std.specs.Prelude.{◌≡◌, ℕ, ◌+◌, ◌*◌, cond, List, [], ◌∷◌, ◌++◌, length, replicate, codes, decimal, ◌==◌}
 use Rattle.picture.specs.Words.{leaf_words, kind_words}
-use Rattle.table.specs.Tree.{Tree, empty, leaf, either, then, repeat, postfix}
+use Rattle.table.specs.Tree.{Tree, empty, leaf, either, then, repeat, postfix, tree_of}
 use Rattle.table.specs.declared.node.Node.{Node}
 
 -- how many nodes there are, in a line of its own
@@ -20,10 +20,10 @@ outlined d (either a b) = line_of d (kind_words 2 0 0) ++ (outlined (d + 1) a ++
 outlined d (then a b) = line_of d (kind_words 3 0 0) ++ (outlined (d + 1) a ++ outlined (d + 1) b)
 outlined d (repeat a) = line_of d (kind_words 4 0 0) ++ outlined (d + 1) a
 
--- what a text becomes by the outline of a list of nodes: no node adds nothing, and the nodes of a tree add its outline
-pub record Outlined (nodes : List Node) (d : ℕ) (was now : List ℕ) : Type 0 where
-  pub none : nodes ≡ [] → now ≡ was
-  pub some : (t : Tree) → postfix t ≡ nodes → now ≡ was ++ outlined d t
+-- the outline of the tree that a list of nodes writes out, and nothing for no node
+abbrev pub outline_of : ℕ → List Node → List ℕ
+outline_of d [] = []
+outline_of d (n ∷ ns) = outlined d (tree_of (n ∷ ns))
 
 -- left and right are parts of a list of nodes, and where the list ends with a tree's nodes, these are the right part
 pub record Parted (nodes left right : List Node) : Type 0 where

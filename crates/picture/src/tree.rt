@@ -1,27 +1,45 @@
 // A pattern's nodes as an outline: a node to a line, and its operands below it, two blanks further in.
-ghost use Rattle.std.specs.Prelude.{◌≡◌, ◌+◌, ◌^◌, ◌<◌, length, string_bytes, OnOk, Some};
-ghost use Rattle.picture.specs.Outline.{Outlined, Parted, line_of};
+ghost use Rattle.std.specs.Prelude.{◌≡◌, ◌+◌, ◌^◌, ◌<◌, length, Some};
+ghost use Rattle.picture.specs.Outline.{Parted, line_of, outline_of};
 ghost use Rattle.picture.specs.Words.{node_words};
+ghost use Rattle.table.specs.Tree.{postfix, tree_of};
 
 use crate::show::Words;
-use std::alloc::AllocError;
 use std::fmt;
 use table::Node;
 
-// Writes out the nodes of a pattern, or of none: the last, which is the root, and then its operands.
-pub(crate) fn outline(out: &mut String, nodes: &[Node], depth: usize) -> Result<(), AllocError>
-    requires { depth + length nodes.now < 2 ^ 63 }
-    ensures { OnOk result (Outlined nodes.now depth (string_bytes out.old) (string_bytes out.new)) }
-{
-    let Some((node, operands)) = nodes.split_last() else {
-        return Ok(());
-    };
-    let line = Line { depth, node };
-    write!(out, "{line}")?;
-    // A repeat has no left operand, and a leaf or an empty node has none at all: nothing is written for those.
-    let (left, right) = apart(operands);
-    outline(out, left, depth + 1)?;
-    outline(out, right, depth + 1)
+// The nodes of a pattern, or none: the last, which is the root, and then its operands.
+#[derive(Clone, Copy)]
+pub struct Outline<'a> {
+    pub nodes: &'a [Node],
+    pub depth: usize,
+    ghost whole: { 0 < length nodes.now → postfix (tree_of nodes.now) ≡ nodes.now },
+    ghost shallow: { depth + length nodes.now < 2 ^ 63 },
+}
+
+impl fmt::Display for Outline<'_> {
+    ghost output = { λ o. Some (outline_of o.depth o.nodes.now) };
+
+    fn fmt<W: fmt::Write>(&self, f: &mut fmt::Formatter<W>) -> fmt::Result {
+        let depth = self.depth;
+        let Some((node, operands)) = self.nodes.split_last() else {
+            return Ok(());
+        };
+        let line = Line { depth, node };
+        line.fmt(f)?;
+        // A repeat has no left operand, and a leaf or an empty node has none at all: nothing is written for those.
+        let (left, right) = apart(operands);
+        let left = Outline {
+            nodes: left,
+            depth: depth + 1,
+        };
+        let right = Outline {
+            nodes: right,
+            depth: depth + 1,
+        };
+        left.fmt(f)?;
+        right.fmt(f)
+    }
 }
 
 // The nodes of the left operand and of the right one, whose last node says how many they are.

@@ -146,6 +146,7 @@ struct Reader<'t, 'n> {
 impl Reader<'_, '_> {
     ghost use Rattle.text.specs.Progress.{AtEnd, BranchEnds, BranchGoesOn, Comes, Took, Added, AtomRead, PieceRead, BranchRead, PatternRead, AtomStops, BranchStops, PatternStops};
 
+    // Branches parted by `|`, up to a closing bracket or the end.
     #[cycle(grammar)]
     fn pattern(&mut self) -> Result<(), Stop>
         ensures { MatchResult result (λ _. PatternRead self.old self.new) (PatternStops self.old) }
@@ -159,6 +160,7 @@ impl Reader<'_, '_> {
         Ok(())
     }
 
+    // One or more pieces, up to a bar, a closing bracket or the end.
     #[cycle(grammar)]
     fn branch(&mut self) -> Result<(), Stop>
         ensures { MatchResult result (λ _. BranchRead self.old self.new) (BranchStops self.old) }
@@ -172,6 +174,7 @@ impl Reader<'_, '_> {
         Ok(())
     }
 
+    // An atom and its stars.
     #[cycle(grammar)]
     fn piece(&mut self) -> Result<(), Stop>
         ensures { MatchResult result (λ _. PieceRead self.old self.new) (AtomStops self.old) }
@@ -184,6 +187,7 @@ impl Reader<'_, '_> {
         Ok(())
     }
 
+    // One byte, or what begins with `(`, `[` or `\`.
     #[cycle(grammar)]
     fn atom(&mut self) -> Result<(), Stop>
         ensures { MatchResult result (λ _. AtomRead self.old self.new) (AtomStops self.old) }
