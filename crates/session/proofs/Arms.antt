@@ -1,5 +1,5 @@
 -- One symbol more at each kind of node, once its operands are shifted. Assumes nothing.
-use Rattle.std.proofs.Common.{◌≡◌, ℕ, ◌+◌, ◌-◌, ◌*◌, Bool, true, false, cond, not, ◌||◌, List, [], ◌∷◌, ◌++◌, length, take, drop, set, sym, refl, ap, ◌∙◌, subst, append_assoc}
+use Rattle.std.proofs.Common.{◌≡◌, ℕ, ◌+◌, ◌-◌, ◌*◌, Bool, true, false, cond, not, ◌||◌, List, [], ◌∷◌, ◌++◌, length, take, drop, set, sym, refl, ap, ◌∙◌, subst}
 use Rattle.scale.specs.Semiring.{Ops, Semiring, Tells}
 use Rattle.table.specs.declared.node.Leaf.{Leaf}
 use Rattle.table.specs.Tree.{Tree, empty, leaf, either, then, repeat, size}
@@ -24,22 +24,27 @@ module _ {W S : Type 0} (o : Ops W) (laws : Semiring o) (tells : Tells o) (passi
       go false v = let m = flag_set o laws tells passing t h v in (λ j. cond (m j) o.one o.nothing) ∙ ap (λ b. cond (b || marked o passing u k) o.one o.nothing) (sym m)
 
   -- both operands are shifted, and their roots' weights are read
-  module _ (a b : Tree) (ms first second top : List W) (n : ℕ) (an : 3 * size a ≡ n) (fs : first ≡ take n (take (length ms - 3) ms)) (ss : second ≡ drop n (take (length ms - 3) ms)) (tp : top ≡ drop (length ms - 3) ms) where
+  module _ (a b : Tree) (ms first second top : List W) (n m : ℕ) (an : 3 * size a ≡ n) (bm : 3 * size b ≡ m) (fs : first ≡ take n ms) (ss : second ≡ take m (drop n ms)) (tp : top ≡ drop m (drop n ms)) where
     module _ (h k : List (Taken W S)) (x y z : W) (p : ms ≡ marks o passing a h ++ (marks o passing b k ++ (x ∷ y ∷ z ∷ []))) where
-      cut_long : length (marks o passing a h) ≡ n
-      cut_long = rooted_long (marks_rooted o passing a h) ∙ an
+      left_long : length (marks o passing a h) ≡ n
+      left_long = rooted_long (marks_rooted o passing a h) ∙ an
+
+      right_long : length (marks o passing b k) ≡ m
+      right_long = rooted_long (marks_rooted o passing b k) ∙ bm
 
       left_was : first ≡ marks o passing a h
-      left_was = fs ∙ left_part ms (marks o passing a h) (marks o passing b k) (x ∷ y ∷ z ∷ []) p refl n cut_long
+      left_was = fs ∙ left_part ms (marks o passing a h) (marks o passing b k) (x ∷ y ∷ z ∷ []) p n m left_long right_long
 
       right_was : second ≡ marks o passing b k
-      right_was = ss ∙ right_part ms (marks o passing a h) (marks o passing b k) (x ∷ y ∷ z ∷ []) p refl n cut_long
+      right_was = ss ∙ right_part ms (marks o passing a h) (marks o passing b k) (x ∷ y ∷ z ∷ []) p n m left_long right_long
 
-      done : (ma mb ka kb : List W) → ma ≡ ka → mb ≡ kb → (v w u f : W) → v ≡ u → w ≡ f → (ma ++ mb) ++ set (set top 1 v) 2 w ≡ ka ++ (kb ++ (x ∷ u ∷ f ∷ []))
-      done ma mb ka kb ea eb v w u f ev ew =
-          append_assoc ma mb (set (set top 1 v) 2 w) ∙ (λ d. ea d ++ (eb d ++ set (set ((tp ∙ root_part ms (marks o passing a h) (marks o passing b k) (x ∷ y ∷ z ∷ []) p refl n cut_long) d) 1 (ev d)) 2 (ew d)))
+      root_was : top ≡ x ∷ y ∷ z ∷ []
+      root_was = tp ∙ root_part ms (marks o passing a h) (marks o passing b k) (x ∷ y ∷ z ∷ []) p n m left_long right_long
 
-    pub either_arm : (i : W) (s : S) (ma mb : List W) (ra rb : ℕ) (e l f : W) → drop (length ma - 3) ma ≡ e ∷ l ∷ f ∷ [] → (c m g : W) → drop (length mb - 3) mb ≡ c ∷ m ∷ g ∷ [] → (v w : W) → v ≡ o.plus l m → w ≡ cond (o.vanishes f) g f → Shifted o passing a first i s ma ra → Shifted o passing b second i s mb rb → Shifted o passing (either a b) ms i s ((ma ++ mb) ++ set (set top 1 v) 2 w) (ra + rb)
+      done : (ma mb ka kb : List W) → ma ≡ ka → mb ≡ kb → (v w u f : W) → v ≡ u → w ≡ f → ma ++ (mb ++ set (set top 1 v) 2 w) ≡ ka ++ (kb ++ (x ∷ u ∷ f ∷ []))
+      done ma mb ka kb ea eb v w u f ev ew = λ d. ea d ++ (eb d ++ set (set (root_was d) 1 (ev d)) 2 (ew d))
+
+    pub either_arm : (i : W) (s : S) (ma mb : List W) (ra rb : ℕ) (e l f : W) → drop (length ma - 3) ma ≡ e ∷ l ∷ f ∷ [] → (c m g : W) → drop (length mb - 3) mb ≡ c ∷ m ∷ g ∷ [] → (v w : W) → v ≡ o.plus l m → w ≡ cond (o.vanishes f) g f → Shifted o passing a first i s ma ra → Shifted o passing b second i s mb rb → Shifted o passing (either a b) ms i s (ma ++ (mb ++ set (set top 1 v) 2 w)) (ra + rb)
     either_arm i s ma mb ra rb e l f at c m g bt v w vx wx left right h p =
         let new = taken i s ∷ h in
         let one = left h (left_was h h _ _ _ p) in
@@ -50,7 +55,7 @@ module _ {W S : Type 0} (o : Ops W) (laws : Semiring o) (tells : Tells o) (passi
           λ d. one.1 d + two.1 d,
         )
 
-    pub then_arm : (i j : W) (s : S) (q r t : W) → drop (length first - 3) first ≡ q ∷ r ∷ t ∷ [] → j ≡ o.plus (o.times i q) r → (ma mb : List W) (ra rb : ℕ) (e l f : W) → drop (length ma - 3) ma ≡ e ∷ l ∷ f ∷ [] → (c m g : W) → drop (length mb - 3) mb ≡ c ∷ m ∷ g ∷ [] → (v w : W) → v ≡ o.plus (o.times l c) m → w ≡ cond (o.vanishes f) g f → Shifted o passing a first i s ma ra → Shifted o passing b second j s mb rb → Shifted o passing (then a b) ms i s ((ma ++ mb) ++ set (set top 1 v) 2 w) (ra + rb)
+    pub then_arm : (i j : W) (s : S) (q r t : W) → drop (length first - 3) first ≡ q ∷ r ∷ t ∷ [] → j ≡ o.plus (o.times i q) r → (ma mb : List W) (ra rb : ℕ) (e l f : W) → drop (length ma - 3) ma ≡ e ∷ l ∷ f ∷ [] → (c m g : W) → drop (length mb - 3) mb ≡ c ∷ m ∷ g ∷ [] → (v w : W) → v ≡ o.plus (o.times l c) m → w ≡ cond (o.vanishes f) g f → Shifted o passing a first i s ma ra → Shifted o passing b second j s mb rb → Shifted o passing (then a b) ms i s (ma ++ (mb ++ set (set top 1 v) 2 w)) (ra + rb)
     then_arm i j s q r t ft jx ma mb ra rb e l f at c m g bt v w vx wx left right h p =
         let k = to_right o passing a h in
         let new = taken i s ∷ h in

@@ -20,16 +20,16 @@ module _ {A : Type 0} (all xs zs : List A) (is : all ≡ xs ++ zs) (three : leng
   pub at_root : drop (length all - 3) all ≡ zs
   at_root = (λ i. drop (before_three i) (is i)) ∙ drop_at xs zs (length xs) refl
 
--- two operands, of which the left one has n elements
-module _ {A : Type 0} (all xs ys zs : List A) (is : all ≡ xs ++ (ys ++ zs)) (three : length zs ≡ 3) (n : ℕ) (long : length xs ≡ n) where
-  grouped : all ≡ (xs ++ ys) ++ zs
-  grouped = is ∙ sym (append_assoc xs ys zs)
+-- two operands of n and m elements, and the root
+module _ {A : Type 0} (all xs ys zs : List A) (is : all ≡ xs ++ (ys ++ zs)) (n m : ℕ) (long : length xs ≡ n) (right_long : length ys ≡ m) where
+  pub left_part : take n all ≡ xs
+  left_part = ap (take n) is ∙ take_at xs (ys ++ zs) n long
 
-  pub left_part : take n (take (length all - 3) all) ≡ xs
-  left_part = ap (take n) (below_root all (xs ++ ys) zs grouped three) ∙ take_at xs ys n long
+  past_left : drop n all ≡ ys ++ zs
+  past_left = ap (drop n) is ∙ drop_at xs (ys ++ zs) n long
 
-  pub right_part : drop n (take (length all - 3) all) ≡ ys
-  right_part = ap (drop n) (below_root all (xs ++ ys) zs grouped three) ∙ drop_at xs ys n long
+  pub right_part : take m (drop n all) ≡ ys
+  right_part = ap (take m) past_left ∙ take_at ys zs m right_long
 
-  pub root_part : drop (length all - 3) all ≡ zs
-  root_part = at_root all (xs ++ ys) zs grouped three
+  pub root_part : drop m (drop n all) ≡ zs
+  root_part = ap (drop m) past_left ∙ drop_at ys zs m right_long

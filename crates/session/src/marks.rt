@@ -87,8 +87,8 @@ fn shift_either<W: Scale, S: Symbol>(
     ensures shifted { Shifted W.Scale.ops S.Symbol.passing (tree_of nodes.now) marks.old incoming symbol marks.new result }
 {
     let (left, right) = operands(nodes);
-    let (below, top) = marks.split_at_mut(marks.len() - WEIGHTS_PER_NODE);
-    let (first, second) = below.split_at_mut(WEIGHTS_PER_NODE * left.len());
+    let (first, rest) = marks.split_at_mut(WEIGHTS_PER_NODE * left.len());
+    let (second, top) = rest.split_at_mut(WEIGHTS_PER_NODE * right.len());
     let a = shift(left, first, incoming, symbol);
     let b = shift(right, second, incoming, symbol);
     let (left, right) = (root(first), root(second));
@@ -106,8 +106,8 @@ fn shift_then<W: Scale, S: Symbol>(nodes: &[Node], marks: &mut [W], incoming: W,
     ensures shifted { Shifted W.Scale.ops S.Symbol.passing (tree_of nodes.now) marks.old incoming symbol marks.new result }
 {
     let (left, right) = operands(nodes);
-    let (below, top) = marks.split_at_mut(marks.len() - WEIGHTS_PER_NODE);
-    let (first, second) = below.split_at_mut(WEIGHTS_PER_NODE * left.len());
+    let (first, rest) = marks.split_at_mut(WEIGHTS_PER_NODE * left.len());
+    let (second, top) = rest.split_at_mut(WEIGHTS_PER_NODE * right.len());
     let before = root(first);
     let onward = incoming.mul(before.empty).add(before.last);
     let a = shift(left, first, incoming, symbol);

@@ -14,7 +14,7 @@ shift_either-shift-a-requires g t c κs w =
 
 pub shift_either-shift-b-requires : goal.shift_either-shift-b-requires
 shift_either-shift-b-requires g t c κs w =
-    (omega (arith, c.decreases, c.operands.ensures.all), (w.0, (w.1, writes_fit c.operands.ensures.right _ (omega (arith, c.requires.fits.long, c.operands.ensures.all, c.split_at_mut-below.ensures.front_len, c.split_at_mut-first.ensures.back_len)))))
+    (omega (arith, c.decreases, c.operands.ensures.all), (w.0, (w.1, writes_fit c.operands.ensures.right _ c.split_at_mut-second.ensures.front_len)))
 
 pub shift_either-returns : goal.shift_either-returns
 shift_either-returns g t c =
@@ -24,13 +24,14 @@ shift_either-returns g t c =
     let passing = g.S.Symbol.passing in
     let tree = tree_of c.args.nodes.now in
     let n = 3 * length c.operands.result.0.now in
-    let below = c.split_at_mut-below.ensures in
-    let parts = c.split_at_mut-first.ensures in
+    let m = 3 * length c.operands.result.1.now in
+    let front = c.split_at_mut-first.ensures in
+    let back = c.split_at_mut-second.ensures in
     record {
       few = omega (arith, c.shift-a.ensures.few, c.shift-b.ensures.few, c.operands.ensures.all);
       shifted =
           of_tree o laws tells passing c.requires.two _ _ _ _ _
-          (either_arm o laws tells passing (left_of tree) (right_of tree) c.args.marks.now _ _ _ n (ap (λ k. 3 * k) (writes_size c.operands.ensures.left)) (parts.front ∙ ap (take n) below.front) (parts.back ∙ ap (drop n) below.front) below.back
+          (either_arm o laws tells passing (left_of tree) (right_of tree) c.args.marks.now _ _ _ n m (ap (λ k. 3 * k) (writes_size c.operands.ensures.left)) (ap (λ k. 3 * k) (writes_size c.operands.ensures.right)) front.front (back.front ∙ ap (take m) front.back) (back.back ∙ ap (drop m) front.back)
           c.args.incoming c.args.symbol _ _ _ _ _ _ _ c.root-left.ensures _ _ _ c.root-right.ensures _ _ c.add.ensures c.either_flag.ensures
           (of_tree o laws tells passing (sym c.operands.ensures.left.tree) _ _ _ _ _ c.shift-a.ensures.shifted) (of_tree o laws tells passing (sym c.operands.ensures.right.tree) _ _ _ _ _ c.shift-b.ensures.shifted));
     }
@@ -41,7 +42,7 @@ shift_then-shift-a-requires g t c κs w =
 
 pub shift_then-shift-b-requires : goal.shift_then-shift-b-requires
 shift_then-shift-b-requires g t c κs w =
-    (omega (arith, c.decreases, c.operands.ensures.all), (w.0, (w.1, writes_fit c.operands.ensures.right _ (omega (arith, c.requires.fits.long, c.operands.ensures.all, c.split_at_mut-below.ensures.front_len, c.split_at_mut-first.ensures.back_len)))))
+    (omega (arith, c.decreases, c.operands.ensures.all), (w.0, (w.1, writes_fit c.operands.ensures.right _ c.split_at_mut-second.ensures.front_len)))
 
 pub shift_then-returns : goal.shift_then-returns
 shift_then-returns g t c =
@@ -51,13 +52,14 @@ shift_then-returns g t c =
     let passing = g.S.Symbol.passing in
     let tree = tree_of c.args.nodes.now in
     let n = 3 * length c.operands.result.0.now in
-    let below = c.split_at_mut-below.ensures in
-    let parts = c.split_at_mut-first.ensures in
+    let m = 3 * length c.operands.result.1.now in
+    let front = c.split_at_mut-first.ensures in
+    let back = c.split_at_mut-second.ensures in
     record {
       few = omega (arith, c.shift-a.ensures.few, c.shift-b.ensures.few, c.operands.ensures.all);
       shifted =
           of_tree o laws tells passing c.requires.two _ _ _ _ _
-          (then_arm o laws tells passing (left_of tree) (right_of tree) c.args.marks.now _ _ _ n (ap (λ k. 3 * k) (writes_size c.operands.ensures.left)) (parts.front ∙ ap (take n) below.front) (parts.back ∙ ap (drop n) below.front) below.back
+          (then_arm o laws tells passing (left_of tree) (right_of tree) c.args.marks.now _ _ _ n m (ap (λ k. 3 * k) (writes_size c.operands.ensures.left)) (ap (λ k. 3 * k) (writes_size c.operands.ensures.right)) front.front (back.front ∙ ap (take m) front.back) (back.back ∙ ap (drop m) front.back)
           c.args.incoming _ c.args.symbol _ _ _ c.root-before.ensures (c.add-onward.ensures ∙ ap (λ x. o.plus x c.root-before.result.last) c.mul.ensures)
           _ _ _ _ _ _ _ c.root-left.ensures _ _ _ c.root-right.ensures _ _ (c.add.ensures ∙ ap (λ x. o.plus x c.root-right.result.last) c.mul-2.ensures) c.either_flag.ensures
           (of_tree o laws tells passing (sym c.operands.ensures.left.tree) _ _ _ _ _ c.shift-a.ensures.shifted) (of_tree o laws tells passing (sym c.operands.ensures.right.tree) _ _ _ _ _ c.shift-b.ensures.shifted));
