@@ -1,8 +1,7 @@
 // The weight of a whole line.
-ghost use Rattle.std.specs.Prelude.{◌≡◌, ◌≤◌, [], length, drop};
+ghost use Rattle.std.specs.Prelude.{◌≡◌, ◌≤◌, length, drop};
 ghost use Rattle.session.specs.Faults.{most_symbols};
-ghost use Rattle.session.specs.Sessions.{Kept};
-ghost use Rattle.sheet.specs.Weighing.{Held, line_weight, needed};
+ghost use Rattle.sheet.specs.Weighing.{line_weight, needed};
 ghost use Rattle.table.specs.Content.{content};
 ghost use Rattle.table.specs.Kinds.{byte_number};
 
