@@ -1,5 +1,5 @@
 -- The rows of line after line. Assumes nothing.
-use Rattle.std.proofs.Common.{◌≡◌, ℕ, ◌+◌, ◌≤◌, Bool, true, false, cond, ◌&&◌, ◌||◌, eqb, List, [], ◌∷◌, ◌++◌, length, sym, ap, ◌∙◌, append_assoc, arith}
+use Rattle.std.proofs.Common.{◌≡◌, ℕ, ◌+◌, ◌≤◌, Bool, ◌&&◌, ◌||◌, eqb, List, [], ◌∷◌, ◌++◌, length, sym, ap, ◌∙◌, append_assoc, arith}
 use Rattle.lines.specs.Lines.{lines, onto}
 use Rattle.table.specs.declared.table.Table.{Table}
 use Rattle.table.specs.Content.{content, tree}
@@ -33,11 +33,7 @@ length_onto b (l ∷ ls) = omega arith
 
 pub few_lines : (file : List ℕ) → length (lines file) ≤ length file
 few_lines [] = omega arith
-few_lines (b ∷ bs) = by (eqb b 10) (few_lines bs)
-  where
-    by : (x : Bool) → length (lines bs) ≤ length bs → length (cond x ([] ∷ lines bs) (onto b (lines bs))) ≤ length (b ∷ bs)
-    by true few = omega arith
-    by false few = omega (arith, length_onto b (lines bs))
+few_lines (b ∷ bs) = grind (arith, few_lines bs, length_onto b (lines bs))
 
 -- no table needs more than three weights for each of 512 nodes
 pub room_enough : (t : Table) → needed t ≤ 1536

@@ -10,7 +10,6 @@ use Rattle.sheet.specs.Lanes.{has}
 use Rattle.sheet.specs.Sheets.{set_of, standing}
 use Rattle.sheet.specs.Standings.{same}
 use Rattle.sheet.proofs.Counted.{count_of, counted_some, some_counted, counted_one, one_counted, counted_more, more_counted}
-use Rattle.sheet.proofs.Moves.{sets}
 
 pub equals : {a b : Bool} → a ≡ b → ((a ≡ true) ↔ (b ≡ true))
 equals e = (λ h. sym e ∙ h, λ h. e ∙ h)
@@ -24,6 +23,9 @@ more Taken = true
 more Struck = true
 
 -- by the sets, of which one at most has the lane
+
+abbrev pub sets : Bool → Bool → Bool → Bool → ℕ
+sets c o t s = cond c 1 0 + (cond o 1 0 + (cond t 1 0 + (cond s 1 0 + 0)))
 
 pub set_clean : (c o t s : Bool) → c ≡ same (set_of c o t s) Clean
 set_clean c o t s = grind arith

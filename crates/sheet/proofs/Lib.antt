@@ -1,5 +1,4 @@
 pub mod Masks
-pub mod Moves
 pub mod Accepts
 pub mod Counted
 pub mod Tallies

@@ -40,8 +40,8 @@ Beside lane (NoSuchSlip l) = Unit {0}
 Beside lane (LanesOwed l) = Unit {0}
 
 -- a lane is refused so, with the lane beside a session's fault, or it passes where nothing refuses it
-abbrev pub Judged : {A : Type 0} → ℕ → Option Refusal → Result A SheetFault → Type 0
-Judged lane refusal (Ok x) = refusal ≡ None
+abbrev pub Judged : ℕ → Option Refusal → Result ℕ SheetFault → Type 0
+Judged lane refusal (Ok l) = (refusal ≡ None) × (l ≡ lane)
 Judged lane refusal (Err f) = (refusal ≡ Some (refusal_of f)) × Beside lane f
 
 -- entering a line by a table, with room for so many weights

@@ -3,7 +3,7 @@ use Rattle.std.specs.Prelude.{ℕ, Bool, ◌==◌}
 use Rattle.sheet.specs.declared.standing.Standing.{Standing}
 use Rattle.sheet.specs.declared.standing.Standing.TheVariants.{Unfilled, Clean, Owed, Taken, Struck}
 
-abbrev pub rank : Standing → ℕ
+abbrev rank : Standing → ℕ
 rank Unfilled = 0
 rank Clean = 1
 rank Owed = 2

@@ -1,5 +1,5 @@
 // Sets of lanes.
-ghost use Rattle.std.specs.Prelude.{◌≡◌, ◌^◌, ◌<◌, true, MatchOption};
+ghost use Rattle.std.specs.Prelude.{◌≡◌, ◌<◌, true, MatchOption};
 ghost use Rattle.sheet.specs.Lanes.{Least, NoneOf, Put, has};
 
 use crate::lane::Lane;

@@ -1,8 +1,7 @@
 // The weight of a whole line.
-ghost use Rattle.std.specs.Prelude.{◌≡◌, ◌≤◌, [], length, drop};
+ghost use Rattle.std.specs.Prelude.{◌≡◌, ◌≤◌, length, drop};
 ghost use Rattle.session.specs.Faults.{most_symbols};
-ghost use Rattle.session.specs.Sessions.{Kept};
-ghost use Rattle.sheet.specs.Weighing.{Held, line_weight, needed};
+ghost use Rattle.sheet.specs.Weighing.{line_weight, needed};
 ghost use Rattle.table.specs.Content.{content};
 ghost use Rattle.table.specs.Kinds.{byte_number};
 
@@ -23,23 +22,12 @@ pub(crate) fn weigh(
     ensures rest { drop (needed table.now) weights.new ≡ drop (needed table.now) weights.old }
 {
     let mut session = Session::open(table, weights);
-    read_line(&mut session, line);
-    // The list was judged.
-    let weight = session.weigh().unwrap();
-    session.end();
-    weight
-}
-
-// Reads a line into a new session, which takes all of it.
-fn read_line<'t, 'w>(session: &mut Session<'t, 'w, Pair<Count, Price>, u8>, line: &[u8])
-    requires kind { (content session.old.table.now).kind ≡ byte_number }
-    requires new { Held session.old [] }
-    requires short { length line.now ≤ most_symbols }
-    ensures kept { Kept session.old session.new }
-    ensures held { Held session.new line.now }
-{
     for byte in line {
         // A byte is always allowed, and the line is short enough.
         session.read(*byte).unwrap();
     }
+    // The list was judged.
+    let weight = session.weigh().unwrap();
+    session.end();
+    weight
 }

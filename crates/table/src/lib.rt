@@ -9,7 +9,7 @@ mod table;
 mod touch;
 
 pub use fault::{Refusal, TableFault};
-pub use node::{BLANK, EITHER, EMPTY, LEAF, Leaf, Node, NodeKind, REPEAT, THEN, UnknownKind};
+pub use node::{BLANK, Leaf, Node, NodeKind, UnknownKind};
 pub use symbol::Symbol;
 pub use table::{MOST_NODES, Table};
 pub use touch::{Touch, pad_leaf_bounds};

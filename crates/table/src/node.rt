@@ -13,17 +13,6 @@ pub enum NodeKind {
     Repeat = 4,
 }
 
-// Their numbers, for those who go by numbers.
-pub const EMPTY: u8 = NodeKind::Empty as u8;
-
-pub const LEAF: u8 = NodeKind::Leaf as u8;
-
-pub const EITHER: u8 = NodeKind::Either as u8;
-
-pub const THEN: u8 = NodeKind::Then as u8;
-
-pub const REPEAT: u8 = NodeKind::Repeat as u8;
-
 // A number that no kind of node has.
 #[derive(Clone, Copy, PartialEq, Eq, Debug)]
 pub struct UnknownKind(pub u8);

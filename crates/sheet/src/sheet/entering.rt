@@ -1,11 +1,11 @@
 // Entering lines, and all that refuses an entry.
-ghost use Rattle.std.specs.Prelude.{◌≡◌, ℕ, length, drop, IfErr, IfOk, MatchResult};
+ghost use Rattle.std.specs.Prelude.{◌≡◌, length, drop, IfErr, MatchResult};
 ghost use Rattle.std.specs.Option.{option_map};
 ghost use Rattle.std.specs.Result.{result_err};
 ghost use Rattle.session.specs.Faults.{refusal_of};
 ghost use Rattle.sheet.specs.Calls.{Judged, filled};
 ghost use Rattle.sheet.specs.History.{Did, enter};
-ghost use Rattle.sheet.specs.Refusals.{entry_refusal, filled_refusal, lane_refusal, line_refusal, session_judged};
+ghost use Rattle.sheet.specs.Refusals.{entry_refusal, filled_refusal, lane_refusal, session_judged};
 ghost use Rattle.sheet.specs.Weighing.{needed};
 
 use crate::entry::{Entry, entry_of};
@@ -48,19 +48,19 @@ impl Sheet {
         table: &Table,
         weights: &[Pair<Count, Price>],
     ) -> Result<Lane, SheetFault>
-        ensures judged { Judged lane (entry_refusal (filled self.now lane) lane line.now table.now (length weights.now)) result }
-        ensures same { IfOk result (λ l. l ≡ lane) }
+        ensures { Judged lane (entry_refusal (filled self.now lane) lane line.now table.now (length weights.now)) result }
     {
         judge_session(lane, table, weights)?;
         let at = judge_lane(lane)?;
-        judge_length(line.len())?;
+        if line.len() > MOST_SYMBOLS {
+            return Err(SheetFault::LongLine);
+        }
         self.judge_filled(at)
     }
 
     // A lane whose line has a reading takes no other line.
     fn judge_filled(&self, lane: Lane) -> Result<Lane, SheetFault>
-        ensures judged { Judged lane (filled_refusal (filled self.now lane) lane) result }
-        ensures same { IfOk result (λ l. l ≡ lane) }
+        ensures { Judged lane (filled_refusal (filled self.now lane) lane) result }
     {
         if self.standing(lane) == Standing::Unfilled {
             return Ok(lane);
@@ -89,20 +89,10 @@ fn judge_session(lane: u8, table: &Table, weights: &[Pair<Count, Price>]) -> Res
 
 // A sheet has the lanes 1 to 10.
 fn judge_lane(lane: u8) -> Result<Lane, SheetFault>
-    ensures judged { Judged lane (lane_refusal lane) result }
-    ensures same { IfOk result (λ l. l ≡ lane) }
+    ensures { Judged lane (lane_refusal lane) result }
 {
     match Lane::new(lane) {
         Some(at) if 1 <= lane && lane <= 10 => Ok(at),
         _ => Err(SheetFault::BadLane(lane)),
     }
-}
-
-fn judge_length(symbols: usize) -> Result<(), SheetFault>
-    ensures { (lane : ℕ) → Judged lane (line_refusal symbols) result }
-{
-    if symbols > MOST_SYMBOLS {
-        return Err(SheetFault::LongLine);
-    }
-    Ok(())
 }
