@@ -8,38 +8,27 @@ use table::{BLANK, Node, NodeKind, Symbol, Table};
 // size that it has after single nodes.
 const LONE: Node = Node {
     kind: NodeKind::Leaf as u8,
-    tag: 0,
-    size: 1,
     low: 97,
     high: 97,
-    price: 0,
+    ..BLANK
 };
 
 pub const EITHER_OF_2: Node = Node {
     kind: NodeKind::Either as u8,
-    tag: 0,
     size: 3,
-    low: 0,
-    high: 0,
-    price: 0,
+    ..BLANK
 };
 
 const THEN_OF_2: Node = Node {
     kind: NodeKind::Then as u8,
-    tag: 0,
     size: 3,
-    low: 0,
-    high: 0,
-    price: 0,
+    ..BLANK
 };
 
 pub const REPEAT_OF_1: Node = Node {
     kind: NodeKind::Repeat as u8,
-    tag: 0,
     size: 2,
-    low: 0,
-    high: 0,
-    price: 0,
+    ..BLANK
 };
 
 // How many empty nodes are judged at a time, to see the limits of a table.

@@ -1,11 +1,12 @@
 // What sessions do with symbols of another kind, with a list that is too short or too long, and when they are full.
-use crate::replies::{Weighed, refused, told};
+use crate::outcome::Refused;
+use crate::replies::{Weighed, told};
 use crate::sessions::{
     PADS, PADS_OR_ANY, byte_table, lent, needed, succession, table_of, turns_of,
 };
 use scale::{Count, Pair, Price, Scale};
 use session::{
-    Ask, MOST_SYMBOLS, Session, SessionFault, Turn, judge_weights, mark_word, run_both, run_turns,
+    Ask, MOST_SYMBOLS, Session, SessionFault, judge_weights, mark_word, run_both, run_turns,
 };
 use std::alloc::{AllocError, Global};
 use std::io;
@@ -38,6 +39,19 @@ const OF_PAD: [Ask<Touch>; 5] = [
     Ask::Weigh,
 ];
 
+// What a full session is asked: to the end, and until it is made new and after.
+const KEPT_FULL: [Ask<Touch>; 2] = [Ask::Read(PAD), Ask::Weigh];
+
+const MADE_NEW: [Ask<Touch>; 7] = [
+    Ask::Read(PAD),
+    Ask::Read(STRAY),
+    Ask::Weigh,
+    Ask::Restart,
+    Ask::Weigh,
+    Ask::Read(PAD),
+    Ask::Weigh,
+];
+
 pub fn run(rt: &HostRuntime, heap: Global) -> io::Result<()> {
     let bytes = byte_table(b"(a|a)*");
     let pads = table_of::<Touch>(PADS.nodes);
@@ -50,9 +64,9 @@ pub fn run(rt: &HostRuntime, heap: Global) -> io::Result<()> {
     lists(rt, heap, &bytes)?;
     let unlent = short_session(heap, &pads, STRAY)?;
     println!(rt; "a session over 5 of 6 weights -> {unlent}")?;
-    let full = full(heap, &table_of::<Touch>(PADS_OR_ANY.nodes))?;
-    println!(rt; "65535 touches and more -> {full}")?;
-    let kept = kept_full(heap, &pads)?;
+    let more = full::<Pair<Count, Price>>(heap, &table_of::<Touch>(PADS_OR_ANY.nodes), &MADE_NEW)?;
+    println!(rt; "65535 touches and more -> {more}")?;
+    let kept = full::<Price>(heap, &pads, &KEPT_FULL)?;
     println!(rt; "65535 touches, no restart -> {kept}")
 }
 
@@ -78,7 +92,7 @@ fn judged(heap: Global, table: &Table, room: usize) -> Result<String, AllocError
 fn answer(heap: Global, res: Result<(), SessionFault>) -> Result<String, AllocError> {
     match res {
         Ok(()) => String::from_str(heap, "done"),
-        Err(fault) => refused(heap, fault),
+        Err(fault) => Refused(fault.refusal()).to_string(heap),
     }
 }
 
@@ -110,7 +124,7 @@ fn listed<W: Weighed>(heap: Global, weights: &[W]) -> Result<String, AllocError>
     let mut text = String::new(heap);
     for weight in weights {
         let weight = weight.weight();
-        text.push_str(format!(in heap; " {weight}")?.as_str())?;
+        write!(text, " {weight}")?;
     }
     Ok(text)
 }
@@ -134,61 +148,48 @@ fn both(heap: Global, table: &Table, room: usize) -> Result<String, AllocError> 
     format!(in heap; "{answer}; {counts}; {yes}")
 }
 
-// Asks a session once.
-fn ask<'t, 'w, W: Scale, S: Symbol>(
-    session: &mut Session<'t, 'w, W, S>,
-    ask: Ask<S>,
-) -> Turn<W, S> {
-    let reply = session.ask(ask);
-    Turn { ask, reply }
+// Asks a session one thing after another, and tells what it answered.
+fn asked<'t, 'w, W: Scale + Weighed>(
+    heap: Global,
+    session: &mut Session<'t, 'w, W, Touch>,
+    asks: &[Ask<Touch>],
+) -> Result<String, AllocError> {
+    let mut turns = turns_of::<W, Touch>(heap, asks)?;
+    for turn in turns.iter_mut() {
+        turn.reply = session.ask(turn.ask);
+    }
+    told(heap, turns.as_slice())
 }
 
 // A session over a list that is one weight too short.
 fn short_session(heap: Global, table: &Table, symbol: Touch) -> Result<String, AllocError> {
+    let asks = [
+        Ask::Read(PAD),
+        Ask::Read(symbol),
+        Ask::Weigh,
+        Ask::Restart,
+    ];
     let mut weights = lent(heap, Count::unit(), 5)?;
     let mut session = Session::open(table, weights.as_mut_slice());
-    let turns = [
-        ask(&mut session, Ask::Read(PAD)),
-        ask(&mut session, Ask::Read(symbol)),
-        ask(&mut session, Ask::Weigh),
-        ask(&mut session, Ask::Restart),
-    ];
+    let turns = asked(heap, &mut session, &asks);
     let held = session.end();
-    let turns = told(heap, &turns)?;
+    let turns = turns?;
     let list = listed(heap, weights.as_slice())?;
     format!(in heap; "{turns}, end: {held};{list}")
 }
 
-// A session that is full, and then made new.
-fn full(heap: Global, table: &Table) -> Result<String, AllocError> {
-    let mut weights = lent(heap, Pair::<Count, Price>::unit(), needed(table))?;
+// A session that is full, and what it is asked then.
+fn full<W: Scale + Weighed>(
+    heap: Global,
+    table: &Table,
+    asks: &[Ask<Touch>],
+) -> Result<String, AllocError> {
+    let mut weights = lent(heap, W::unit(), needed(table))?;
     let mut session = Session::open(table, weights.as_mut_slice());
     let taken = fill(&mut session, PAD);
-    let turns = [
-        ask(&mut session, Ask::Read(PAD)),
-        ask(&mut session, Ask::Read(STRAY)),
-        ask(&mut session, Ask::Weigh),
-        ask(&mut session, Ask::Restart),
-        ask(&mut session, Ask::Weigh),
-        ask(&mut session, Ask::Read(PAD)),
-        ask(&mut session, Ask::Weigh),
-    ];
+    let turns = asked(heap, &mut session, asks);
     let held = session.end();
-    let turns = told(heap, &turns)?;
-    format!(in heap; "{taken} taken, {turns}, end: {held}")
-}
-
-// A session that is full to its end.
-fn kept_full(heap: Global, table: &Table) -> Result<String, AllocError> {
-    let mut weights = lent(heap, Price::unit(), needed(table))?;
-    let mut session = Session::open(table, weights.as_mut_slice());
-    let taken = fill(&mut session, PAD);
-    let turns = [
-        ask(&mut session, Ask::Read(PAD)),
-        ask(&mut session, Ask::Weigh),
-    ];
-    let held = session.end();
-    let turns = told(heap, &turns)?;
+    let turns = turns?;
     format!(in heap; "{taken} taken, {turns}, end: {held}")
 }
 

@@ -1,4 +1,4 @@
-// What a call answered that makes nodes, as it is printed.
+// What calls answered, as it is printed.
 use std::fmt;
 use table::Refusal;
 
@@ -20,5 +20,16 @@ impl fmt::Display for Outcome {
             Ok(count) => write!(f, "{count} nodes"),
             Err(refusal) => write!(f, "{refusal}"),
         }
+    }
+}
+
+// `refused`, and the refusal's number, place and layer.
+#[derive(Clone, Copy)]
+pub struct Refused(pub Refusal);
+
+impl fmt::Display for Refused {
+    fn fmt<W: fmt::Write>(&self, f: &mut fmt::Formatter<W>) -> fmt::Result {
+        let refusal = self.0;
+        write!(f, "refused {refusal}")
     }
 }

@@ -4,6 +4,7 @@ ghost use Rattle.sheet.specs.Calls.{Moved, Opened};
 ghost use Rattle.sheet.specs.Faults.{sheet_refusal};
 ghost use Rattle.sheet.specs.declared.standing.Standing.TheVariants.{Struck, Taken};
 
+use crate::outcome::Refused;
 use crate::settled::{Owing, Settled};
 use scale::{Count, Pair, Price};
 use sheet::{Entry, LaneSet, Returned, Sheet, Slip, StillOpen};
@@ -12,12 +13,15 @@ use table::{Refusal, Table};
 
 // How a line was read.
 #[derive(Clone, Copy)]
-pub enum Answer {
+pub enum Reading {
     Unreadable,
     Clean(u64),
     Owed { price: u64, note: Note },
-    Refused(Refusal),
 }
+
+// How a line was read, or why it was not entered.
+#[derive(Clone, Copy)]
+pub struct Answer(pub Result<Reading, Refusal>);
 
 // What stands on a slip.
 #[derive(Clone, Copy)]
@@ -35,17 +39,23 @@ impl fmt::Display for Note {
     }
 }
 
-// `unreadable`, `clean at 6`, `owed at 3 by sheet 7, lane 3, 2 readings`, or a refusal's number, place and layer.
-impl fmt::Display for Answer {
+// `unreadable`, `clean at 6` or `owed at 3 by sheet 7, lane 3, 2 readings`.
+impl fmt::Display for Reading {
     fn fmt<W: fmt::Write>(&self, f: &mut fmt::Formatter<W>) -> fmt::Result {
         match self {
-            Answer::Unreadable => f.write_str("unreadable"),
-            Answer::Clean(price) => write!(f, "clean at {price}"),
-            Answer::Owed { price, note } => write!(f, "owed at {price} by {note}"),
-            Answer::Refused(refusal) => {
-                let (number, place, layer) = (refusal.number, refusal.place, refusal.layer);
-                write!(f, "refused {number} {place} {layer}")
-            }
+            Reading::Unreadable => f.write_str("unreadable"),
+            Reading::Clean(price) => write!(f, "clean at {price}"),
+            Reading::Owed { price, note } => write!(f, "owed at {price} by {note}"),
+        }
+    }
+}
+
+// The same, or a refusal's number, place and layer.
+impl fmt::Display for Answer {
+    fn fmt<W: fmt::Write>(&self, f: &mut fmt::Formatter<W>) -> fmt::Result {
+        match self.0 {
+            Ok(reading) => reading.fmt(f),
+            Err(refusal) => Refused(refusal).fmt(f),
         }
     }
 }
@@ -94,13 +104,13 @@ impl Settled {
     ) -> After {
         let Settled { mut sheet } = self;
         match sheet.enter(lane, line, table, weights) {
-            Err(fault) => After::Settled(Settled { sheet }, Answer::Refused(fault.refusal())),
+            Err(fault) => After::Settled(Settled { sheet }, Answer(Err(fault.refusal()))),
             Ok(entry) => match entry {
-                Entry::Unreadable => After::Settled(Settled { sheet }, Answer::Unreadable),
-                Entry::Clean { price } => After::Settled(Settled { sheet }, Answer::Clean(price)),
+                Entry::Unreadable => After::Settled(Settled { sheet }, Answer(Ok(Reading::Unreadable))),
+                Entry::Clean { price } => After::Settled(Settled { sheet }, Answer(Ok(Reading::Clean(price)))),
                 Entry::Owed { price, slip } => {
                     let note = note_of(&slip);
-                    After::Owing(Owing { sheet, slip }, Answer::Owed { price, note })
+                    After::Owing(Owing { sheet, slip }, Answer(Ok(Reading::Owed { price, note })))
                 }
             },
         }
@@ -113,17 +123,12 @@ impl Settled {
         ensures struck { result.struck ≡ self.sheet.struck }
     {
         let Settled { sheet } = self;
-        match sheet.close() {
-            Ok(closed) => {
-                let (clean, taken, struck) = closed.print();
-                Lanes {
-                    clean,
-                    taken,
-                    struck,
-                }
-            }
-            // No lane is owed.
-            Err(_) => unreachable(),
+        // No lane is owed.
+        let (clean, taken, struck) = sheet.close().unwrap().print();
+        Lanes {
+            clean,
+            taken,
+            struck,
         }
     }
 }
@@ -133,22 +138,18 @@ impl Owing {
         ensures { Moved self.slip.lane Taken self.sheet result.sheet }
     {
         let Owing { mut sheet, slip } = self;
-        match sheet.take(slip) {
-            Ok(()) => Settled { sheet },
-            // The slip matches.
-            Err(_) => unreachable(),
-        }
+        // The slip matches.
+        sheet.take(slip).unwrap();
+        Settled { sheet }
     }
 
     pub fn strike(self) -> Settled
         ensures { Moved self.slip.lane Struck self.sheet result.sheet }
     {
         let Owing { mut sheet, slip } = self;
-        match sheet.strike(slip) {
-            Ok(()) => Settled { sheet },
-            // The slip matches.
-            Err(_) => unreachable(),
-        }
+        // The slip matches.
+        sheet.strike(slip).unwrap();
+        Settled { sheet }
     }
 
     // Closes the sheet too early.
@@ -178,10 +179,10 @@ impl Owing {
     ) -> (Owing, Answer, Answer) {
         let Owing { mut sheet, slip } = self;
         match sheet.enter(lane, line, table, weights) {
-            Err(fault) => same_twice(Owing { sheet, slip }, Answer::Refused(fault.refusal())),
+            Err(fault) => same_twice(Owing { sheet, slip }, Answer(Err(fault.refusal()))),
             Ok(entry) => match entry {
-                Entry::Unreadable => same_twice(Owing { sheet, slip }, Answer::Unreadable),
-                Entry::Clean { price } => same_twice(Owing { sheet, slip }, Answer::Clean(price)),
+                Entry::Unreadable => same_twice(Owing { sheet, slip }, Answer(Ok(Reading::Unreadable))),
+                Entry::Clean { price } => same_twice(Owing { sheet, slip }, Answer(Ok(Reading::Clean(price)))),
                 Entry::Owed {
                     price,
                     slip: second,
@@ -198,8 +199,8 @@ impl Owing {
                             match still.strike(second) {
                                 Ok(()) => (
                                     Owing { sheet: still, slip },
-                                    Answer::Owed { price, note },
-                                    Answer::Refused(fault.refusal()),
+                                    Answer(Ok(Reading::Owed { price, note })),
+                                    Answer(Err(fault.refusal())),
                                 ),
                                 // The slip matches.
                                 Err(_) => unreachable(),

@@ -1,4 +1,5 @@
 // What a session is asked and what it answered, as it is printed.
+use crate::outcome::Refused;
 use scale::{Count, Pair, Price};
 use session::{Ask, Reply, SessionFault, Turn};
 use std::alloc::{AllocError, Global};
@@ -98,7 +99,40 @@ impl Signed for Touch {
     }
 }
 
-// `read a: 2 tests, weigh: 1, restart: done`, or a refusal's number, place and layer in the answer's place.
+// `read a`, `weigh` or `restart`.
+#[derive(Clone, Copy)]
+struct Asked<S>(Ask<S>);
+
+impl<S: Signed> fmt::Display for Asked<S> {
+    fn fmt<W: fmt::Write>(&self, f: &mut fmt::Formatter<W>) -> fmt::Result {
+        match self.0 {
+            Ask::Read(symbol) => {
+                let sign = symbol.sign();
+                write!(f, "read {sign}")
+            }
+            Ask::Weigh => f.write_str("weigh"),
+            Ask::Restart => f.write_str("restart"),
+        }
+    }
+}
+
+// `2 tests`, a weight or `done`, or a refusal's number, place and layer in its place.
+#[derive(Clone, Copy)]
+struct Answered<V>(Result<Reply<V>, SessionFault>);
+
+impl<V: Weighed> fmt::Display for Answered<V> {
+    fn fmt<W: fmt::Write>(&self, f: &mut fmt::Formatter<W>) -> fmt::Result {
+        match self.0 {
+            Ok(Reply::Took(1)) => f.write_str("1 test"),
+            Ok(Reply::Took(tests)) => write!(f, "{tests} tests"),
+            Ok(Reply::Weighs(weight)) => weight.weight().fmt(f),
+            Ok(Reply::Restarted) => f.write_str("done"),
+            Err(fault) => Refused(fault.refusal()).fmt(f),
+        }
+    }
+}
+
+// `read a: 2 tests, weigh: 1, restart: done`.
 pub fn told<W: Weighed, S: Signed>(
     heap: Global,
     turns: &[Turn<W, S>],
@@ -106,44 +140,10 @@ pub fn told<W: Weighed, S: Signed>(
     let mut text = String::new(heap);
     let mut mark = "";
     for turn in turns {
-        text.push_str(mark)?;
-        text.push_str(asked(heap, turn.ask)?.as_str())?;
-        text.push_str(answered(heap, turn.reply)?.as_str())?;
+        let asked = Asked(turn.ask);
+        let answered = Answered(turn.reply);
+        write!(text, "{mark}{asked}: {answered}")?;
         mark = ", ";
     }
     Ok(text)
-}
-
-fn asked<S: Signed>(heap: Global, ask: Ask<S>) -> Result<String, AllocError> {
-    match ask {
-        Ask::Read(symbol) => {
-            let sign = symbol.sign();
-            format!(in heap; "read {sign}: ")
-        }
-        Ask::Weigh => String::from_str(heap, "weigh: "),
-        Ask::Restart => String::from_str(heap, "restart: "),
-    }
-}
-
-fn answered<W: Weighed>(
-    heap: Global,
-    reply: Result<Reply<W>, SessionFault>,
-) -> Result<String, AllocError> {
-    match reply {
-        Ok(Reply::Took(1)) => String::from_str(heap, "1 test"),
-        Ok(Reply::Took(tests)) => format!(in heap; "{tests} tests"),
-        Ok(Reply::Weighs(weight)) => {
-            let weight = weight.weight();
-            format!(in heap; "{weight}")
-        }
-        Ok(Reply::Restarted) => String::from_str(heap, "done"),
-        Err(fault) => refused(heap, fault),
-    }
-}
-
-// A refusal's number, place and layer.
-pub fn refused(heap: Global, fault: SessionFault) -> Result<String, AllocError> {
-    let refusal = fault.refusal();
-    let (number, place, layer) = (refusal.number, refusal.place, refusal.layer);
-    format!(in heap; "refused {number} {place} {layer}")
 }

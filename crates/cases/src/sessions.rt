@@ -1,32 +1,31 @@
 // Cases of sessions: successions of read, weigh and restart, at both kinds of symbol and at all four scales.
 use crate::judged::{Case, EITHER_OF_2, REPEAT_OF_1};
-use crate::replies::{Signed, Weighed, refused, told};
+use crate::outcome::Refused;
+use crate::replies::{Signed, Weighed, told};
 use scale::{Count, Pair, Price, Scale};
 use session::{Ask, Reply, Turn, WEIGHTS_PER_NODE, run_turns};
 use std::alloc::{AllocError, Global};
 use std::io;
-use table::{Node, NodeKind, Symbol, Table, Touch};
+use table::{BLANK, Node, NodeKind, Symbol, Table, Touch};
 
 // Patterns of bytes, of which the text says all.
 const TEXTS: [&str; 5] = ["(a|a*)(b|b*)", "(a*)*", "()*", "(a|())*", "a"];
 
 const A: Node = Node {
     kind: NodeKind::Leaf as u8,
-    tag: 0,
-    size: 1,
     low: 97,
     high: 97,
     price: 3,
+    ..BLANK
 };
 
 // A pad touch from 25 to 60 seconds after the touch before.
 const PAD: Node = Node {
     kind: NodeKind::Leaf as u8,
-    tag: 0,
-    size: 1,
     low: 2_500,
     high: 6_000,
     price: 7,
+    ..BLANK
 };
 
 // A touch of any source.
@@ -205,7 +204,7 @@ pub fn succession<W: Scale + Weighed, S: Symbol + Signed>(
     let mut turns = turns_of::<W, S>(heap, asks)?;
     match run_turns(table, weights.as_mut_slice(), turns.as_mut_slice()) {
         Ok(()) => told(heap, turns.as_slice()),
-        Err(fault) => refused(heap, fault),
+        Err(fault) => Refused(fault.refusal()).to_string(heap),
     }
 }
 

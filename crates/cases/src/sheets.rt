@@ -75,36 +75,32 @@ fn alone(
     room: usize,
 ) -> Result<String, AllocError> {
     let mut weights = lent(heap, weight(), room)?;
-    let (sheet, answer) = struck(Settled::open(7), lane, line, table, weights.as_mut_slice());
+    let (sheet, answer) = ruled(
+        Settled::open(7),
+        lane,
+        line,
+        table,
+        weights.as_mut_slice(),
+        |owing| owing.strike(),
+    );
     let lanes = shown(heap, sheet.close())?;
     format!(in heap; "{answer}; {lanes}")
 }
 
-// Enters a line, and strikes its lane where it is owed.
-fn struck(
+// Enters a line, and rules on its lane where it is owed.
+fn ruled<R: FnOnce(Owing) -> Settled>(
     sheet: Settled,
     lane: u8,
     line: &[u8],
     table: &Table,
     weights: &mut [Pair<Count, Price>],
-) -> (Settled, Answer) {
+    rule: R,
+) -> (Settled, Answer)
+    requires { R.IsAlwaysCallable rule }
+{
     match sheet.enter(lane, line, table, weights) {
         After::Settled(sheet, answer) => (sheet, answer),
-        After::Owing(owing, answer) => (owing.strike(), answer),
-    }
-}
-
-// Enters a line, and takes its lane where it is owed.
-fn taken(
-    sheet: Settled,
-    lane: u8,
-    line: &[u8],
-    table: &Table,
-    weights: &mut [Pair<Count, Price>],
-) -> (Settled, Answer) {
-    match sheet.enter(lane, line, table, weights) {
-        After::Settled(sheet, answer) => (sheet, answer),
-        After::Owing(owing, answer) => (owing.take(), answer),
+        After::Owing(owing, answer) => (rule(owing), answer),
     }
 }
 
@@ -120,7 +116,7 @@ fn listed(heap: Global, lanes: LaneSet) -> Result<String, AllocError> {
     let mut text = String::new(heap);
     for lane in 0..=u8::MAX {
         if lanes.has(lane) {
-            text.push_str(format!(in heap; " {lane}")?.as_str())?;
+            write!(text, " {lane}")?;
         }
     }
     if text.is_empty() {
@@ -131,15 +127,15 @@ fn listed(heap: Global, lanes: LaneSet) -> Result<String, AllocError> {
 
 // Several lines on one sheet: a lane whose line has a reading takes no other.
 fn heat(table: &Table, weights: &mut [Pair<Count, Price>]) -> ([Answer; 9], Lanes) {
-    let (sheet, a) = taken(Settled::open(9), 1, b"a", table, weights);
-    let (sheet, b) = taken(sheet, 1, b"aa", table, weights);
-    let (sheet, c) = taken(sheet, 2, b"b", table, weights);
-    let (sheet, d) = taken(sheet, 2, b"aaa", table, weights);
-    let (sheet, e) = taken(sheet, 2, b"a", table, weights);
-    let (sheet, f) = struck(sheet, 3, b"a", table, weights);
-    let (sheet, g) = taken(sheet, 3, b"", table, weights);
-    let (sheet, h) = struck(sheet, 10, b"a", table, weights);
-    let (sheet, i) = taken(sheet, 9, b"a", table, weights);
+    let (sheet, a) = ruled(Settled::open(9), 1, b"a", table, weights, |owing| owing.take());
+    let (sheet, b) = ruled(sheet, 1, b"aa", table, weights, |owing| owing.take());
+    let (sheet, c) = ruled(sheet, 2, b"b", table, weights, |owing| owing.take());
+    let (sheet, d) = ruled(sheet, 2, b"aaa", table, weights, |owing| owing.take());
+    let (sheet, e) = ruled(sheet, 2, b"a", table, weights, |owing| owing.take());
+    let (sheet, f) = ruled(sheet, 3, b"a", table, weights, |owing| owing.strike());
+    let (sheet, g) = ruled(sheet, 3, b"", table, weights, |owing| owing.take());
+    let (sheet, h) = ruled(sheet, 10, b"a", table, weights, |owing| owing.strike());
+    let (sheet, i) = ruled(sheet, 9, b"a", table, weights, |owing| owing.take());
     ([a, b, c, d, e, f, g, h, i], sheet.close())
 }
 
@@ -154,7 +150,7 @@ fn shown_heat(heap: Global, table: &Table) -> Result<String, AllocError> {
 fn told(heap: Global, answers: &[Answer]) -> Result<String, AllocError> {
     let mut text = String::new(heap);
     for answer in answers {
-        text.push_str(format!(in heap; "{answer}; ")?.as_str())?;
+        write!(text, "{answer}; ")?;
     }
     Ok(text)
 }
@@ -171,7 +167,7 @@ fn strange(
         After::Owing(own, answer) => {
             let (refusal, own, other) = own.offer(other);
             (
-                [answer, Answer::Refused(refusal)],
+                [answer, Answer(Err(refusal))],
                 own.strike().close(),
                 other.close(),
             )
@@ -249,7 +245,7 @@ fn early(table: &Table, weights: &mut [Pair<Count, Price>]) -> ([Answer; 9], Lan
             let (owing, f, _) = owing.enter(4, b"b", table, weights);
             let (owing, g, _) = owing.enter(1, b"aa", table, weights);
             let (refusal, owing) = owing.close();
-            let refused = Answer::Refused(refusal);
+            let refused = Answer(Err(refusal));
             ([answer, a, b, c, d, e, f, g, refused], owing.take().close())
         }
     }

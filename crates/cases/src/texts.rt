@@ -85,7 +85,7 @@ fn one_byte_texts(heap: Global) -> Result<String, AllocError> {
     for byte in 0..=u8::MAX {
         match outcome(&[byte]).0 {
             Ok(_) => accepted = accepted.saturating_add(1),
-            Err(_) => refused.push_str(format!(in heap; " {byte}")?.as_str())?,
+            Err(_) => write!(refused, " {byte}")?,
         }
     }
     format!(in heap; "{accepted} accepted, refused:{refused}")
