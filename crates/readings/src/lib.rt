@@ -45,11 +45,5 @@ pub fn worked_counts() -> [u32; 6]
     ensures counts { result ≡ worked }
     ensures examples { CountedExamples }
 {
-    counted()
-}
-
-fn counted() -> [u32; 6]
-    ensures { result ≡ worked }
-{
     [1, 2, 2, 4, 1, 2]
 }

@@ -5,7 +5,7 @@ ghost use Rattle.scale.specs.Pairs.{pair_ops};
 use crate::scale::Scale;
 
 // A weight in each of two scales.
-#[derive(Clone, Copy)]
+#[derive(Clone, Copy, PartialEq, Eq, Debug)]
 pub struct Pair<A, B> {
     pub first: A,
     pub second: B,

@@ -1,5 +1,5 @@
 -- What a session holds after one symbol more. Assumes nothing.
-use Rattle.std.proofs.Common.{◌≡◌, ℕ, ◌<◌, ◌≤◌, Bool, true, false, cond, ◌&&◌, eqb, ltb, leb, List, Some, None, Option, sym, refl, ap, ◌∙◌, arith}
+use Rattle.std.proofs.Common.{◌≡◌, ℕ, ◌<◌, ◌≤◌, Bool, true, false, cond, ◌&&◌, eqb, ltb, leb, List, Some, None, Option, refl, arith}
 use Rattle.std.proofs.lemmas.Bool.{ltb-true}
 use Rattle.scale.specs.Semiring.{Ops}
 use Rattle.table.specs.declared.node.Leaf.{Leaf}
@@ -39,7 +39,3 @@ clear_room false o n e = absurd (none_some e)
 pub held_below : (number : ℕ) (allowed : Bool) (t : Table) (room held : ℕ) → None ≡ read_fault number allowed t room held → held < most_symbols
 held_below number allowed t room held e =
     ltb-true held most_symbols (clear_symbol (eqb (content t).kind number && allowed) (ltb held most_symbols) held (clear_room (leb (needed (tree t)) room) (symbol_fault number allowed t held) (needed (tree t)) e))
-
--- and nothing is wrong with it, by the number of symbols held
-pub symbol_clear : (number : ℕ) (allowed : Bool) (t : Table) (room held k : ℕ) → k ≡ held → None ≡ read_fault number allowed t room held → symbol_fault number allowed t k ≡ None
-symbol_clear number allowed t room held k same e = ap (symbol_fault number allowed t) same ∙ sym (clear_room (leb (needed (tree t)) room) (symbol_fault number allowed t held) (needed (tree t)) e)

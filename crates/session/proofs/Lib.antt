@@ -4,7 +4,6 @@ pub mod Parts
 pub mod Rooted
 pub mod Arms
 pub mod Shapes
-pub mod Straying
 pub mod Starting
 pub mod Wording
 pub mod Lending

@@ -1,5 +1,5 @@
 -- The parts of a list that belong to a root's operands, and to the root. Assumes nothing.
-use Rattle.std.proofs.Common.{◌≡◌, ℕ, ◌-◌, List, [], ◌∷◌, ◌++◌, length, take, drop, sym, refl, ap, ◌∙◌, append_assoc, arith, length-append}
+use Rattle.std.proofs.Common.{◌≡◌, ℕ, ◌-◌, List, [], ◌∷◌, ◌++◌, length, take, drop, refl, ap, ◌∙◌, arith, length-append}
 use Rattle.std.proofs.lemmas.List.{take_at, drop_at}
 
 pub three_of : {A : Type 0} (l : List A) → length l ≡ 3 → (x : A) × (y : A) × (z : A) × (l ≡ x ∷ y ∷ z ∷ [])

@@ -1,5 +1,5 @@
 use Rattle.readings.proofs.Counts.{counted_examples}
 use Rattle.readings.proofs.worked_counts.Goals as goal
 
-pub returns : goal.returns
-returns c = record { counts = c.counted.ensures; examples = counted_examples }
+pub returns-clause-examples : goal.returns-clause-examples
+returns-clause-examples c = counted_examples

@@ -1,7 +1,6 @@
 // Counting: sum and product stop at the greatest count.
-ghost use Rattle.std.specs.Prelude.{◌≡◌, ◌+◌, ◌*◌};
 ghost use Rattle.scale.specs.CountLaws.{count_laws, count_tells};
-ghost use Rattle.scale.specs.Counts.{capped, count_ops};
+ghost use Rattle.scale.specs.Counts.{count_ops};
 
 use crate::count::weight::Count;
 use crate::scale::Scale;
@@ -23,13 +22,13 @@ impl Scale for Count {
 
     fn add(self, other: Count) -> Count {
         Count {
-            value: sum(self.value, other.value),
+            value: self.value.saturating_add(other.value),
         }
     }
 
     fn mul(self, other: Count) -> Count {
         Count {
-            value: product(self.value, other.value),
+            value: self.value.saturating_mul(other.value),
         }
     }
 
@@ -40,16 +39,4 @@ impl Scale for Count {
     fn is_zero(self) -> bool {
         self.value == 0
     }
-}
-
-fn sum(a: u32, b: u32) -> u32
-    ensures { result ≡ capped (a + b) }
-{
-    a.saturating_add(b)
-}
-
-fn product(a: u32, b: u32) -> u32
-    ensures { result ≡ capped (a * b) }
-{
-    a.saturating_mul(b)
 }

@@ -42,8 +42,7 @@ impl<'t, 'w, W: Scale, S: Symbol> Session<'t, 'w, W, S> {
         ensures unchanged { OnErr result (self.new ≡ self.old) }
         ensures taken { (w : List S) → Holds W.Scale.ops S.Symbol.passing self.old w → IfOk result (λ n. Holds W.Scale.ops S.Symbol.passing self.new (w ++ symbol ∷ []) × (live_after W.Scale.ops S.Symbol.passing (tree self.old.table.now) w ≤ n) × (n ≤ leaves (tree self.old.table.now))) }
     {
-        let (table, held) = (self.table, self.held);
-        let tests = mark_next(table, self.weights, held, symbol)?;
+        let tests = mark_next(self.table, self.weights, self.held, symbol)?;
         self.held += 1;
         Ok(tests)
     }
@@ -62,8 +61,7 @@ impl<'t, 'w, W: Scale, S: Symbol> Session<'t, 'w, W, S> {
         ensures kept { Kept self.old self.new }
         ensures after { MatchResult result (λ _. Holds W.Scale.ops S.Symbol.passing self.new []) (λ _. self.new ≡ self.old) }
     {
-        let table = self.table;
-        mark_word::<W, S>(table, &[], self.weights)?;
+        mark_word::<W, S>(self.table, &[], self.weights)?;
         self.held = 0;
         Ok(())
     }
@@ -75,6 +73,7 @@ impl<'t, 'w, W: Scale, S: Symbol> Session<'t, 'w, W, S> {
         ensures unchanged { OnErr result (self.new ≡ self.old) }
         ensures right { (w : List S) → Holds W.Scale.ops S.Symbol.passing self.old w → Right W.Scale.ops S.Symbol.passing S.Symbol.number S.Symbol.allowed self.old.table.now w ask result × Holds W.Scale.ops S.Symbol.passing self.new (held_next w ask result) }
     {
+        // `?` and not `map(Reply::Took)`: a call of `map` gets no proof where the constructor's type has a parameter.
         match ask {
             Ask::Read(symbol) => Ok(Reply::Took(self.read(symbol)?)),
             Ask::Weigh => Ok(Reply::Weighs(self.weigh()?)),

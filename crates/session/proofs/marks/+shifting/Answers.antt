@@ -5,19 +5,11 @@ use Rattle.table.specs.Tree.{tree_of, leaf, leaf_of}
 use Rattle.table.proofs.Postfix.{length_postfix}
 use Rattle.session.specs.Shifts.{left_of, right_of}
 use Rattle.session.proofs.Arms.{of_tree, either_arm, then_arm, repeat_arm, empty_arm, still_arm}
-use Rattle.session.proofs.Shapes.{leaf_root, either_root, then_root, repeat_root, empty_single, has_operands, kind_is, lone_root, lone_size, root_is, writes_fit, writes_size}
+use Rattle.session.proofs.Shapes.{leaf_root, empty_single, has_operands, kind_is, lone_root, lone_size, root_is, writes_size}
 use Rattle.session.proofs.marks.+shifting.Goals as goal
 
-pub shift_either-shift-a-requires : goal.shift_either-shift-a-requires
-shift_either-shift-a-requires g t c κs w =
-    (omega (arith, c.decreases, c.operands.ensures.all), (w.0, (w.1, writes_fit c.operands.ensures.left _ (c.split_at_mut-first.ensures.front_len))))
-
-pub shift_either-shift-b-requires : goal.shift_either-shift-b-requires
-shift_either-shift-b-requires g t c κs w =
-    (omega (arith, c.decreases, c.operands.ensures.all), (w.0, (w.1, writes_fit c.operands.ensures.right _ c.split_at_mut-second.ensures.front_len)))
-
-pub shift_either-returns : goal.shift_either-returns
-shift_either-returns g t c =
+pub shift_either-returns-clause-shifted : goal.shift_either-returns-clause-shifted
+shift_either-returns-clause-shifted g t c =
     let o = g.W.Scale.ops in
     let laws = g.W.Scale.laws in
     let tells = g.W.Scale.tells in
@@ -27,25 +19,13 @@ shift_either-returns g t c =
     let m = 3 * length c.operands.result.1.now in
     let front = c.split_at_mut-first.ensures in
     let back = c.split_at_mut-second.ensures in
-    record {
-      few = omega (arith, c.shift-a.ensures.few, c.shift-b.ensures.few, c.operands.ensures.all);
-      shifted =
-          of_tree o laws tells passing c.requires.two _ _ _ _ _
-          (either_arm o laws tells passing (left_of tree) (right_of tree) c.args.marks.now _ _ _ n m (ap (λ k. 3 * k) (writes_size c.operands.ensures.left)) (ap (λ k. 3 * k) (writes_size c.operands.ensures.right)) front.front (back.front ∙ ap (take m) front.back) (back.back ∙ ap (drop m) front.back)
-          c.args.incoming c.args.symbol _ _ _ _ _ _ _ c.root-left.ensures _ _ _ c.root-right.ensures _ _ c.add.ensures c.either_flag.ensures
-          (of_tree o laws tells passing (sym c.operands.ensures.left.tree) _ _ _ _ _ c.shift-a.ensures.shifted) (of_tree o laws tells passing (sym c.operands.ensures.right.tree) _ _ _ _ _ c.shift-b.ensures.shifted));
-    }
+    of_tree o laws tells passing c.requires.two _ _ _ _ _
+    (either_arm o laws tells passing (left_of tree) (right_of tree) c.args.marks.now _ _ _ n m (ap (λ k. 3 * k) (writes_size c.operands.ensures.left)) (ap (λ k. 3 * k) (writes_size c.operands.ensures.right)) front.front (back.front ∙ ap (take m) front.back) (back.back ∙ ap (drop m) front.back)
+    c.args.incoming c.args.symbol _ _ _ _ _ _ _ c.root-left.ensures _ _ _ c.root-right.ensures _ _ c.add.ensures c.either_flag.ensures
+    (of_tree o laws tells passing (sym c.operands.ensures.left.tree) _ _ _ _ _ c.shift-a.ensures.shifted) (of_tree o laws tells passing (sym c.operands.ensures.right.tree) _ _ _ _ _ c.shift-b.ensures.shifted))
 
-pub shift_then-shift-a-requires : goal.shift_then-shift-a-requires
-shift_then-shift-a-requires g t c κs w =
-    (omega (arith, c.decreases, c.operands.ensures.all), (w.0, (w.1, writes_fit c.operands.ensures.left _ (c.split_at_mut-first.ensures.front_len))))
-
-pub shift_then-shift-b-requires : goal.shift_then-shift-b-requires
-shift_then-shift-b-requires g t c κs w =
-    (omega (arith, c.decreases, c.operands.ensures.all), (w.0, (w.1, writes_fit c.operands.ensures.right _ c.split_at_mut-second.ensures.front_len)))
-
-pub shift_then-returns : goal.shift_then-returns
-shift_then-returns g t c =
+pub shift_then-returns-clause-shifted : goal.shift_then-returns-clause-shifted
+shift_then-returns-clause-shifted g t c =
     let o = g.W.Scale.ops in
     let laws = g.W.Scale.laws in
     let tells = g.W.Scale.tells in
@@ -55,33 +35,21 @@ shift_then-returns g t c =
     let m = 3 * length c.operands.result.1.now in
     let front = c.split_at_mut-first.ensures in
     let back = c.split_at_mut-second.ensures in
-    record {
-      few = omega (arith, c.shift-a.ensures.few, c.shift-b.ensures.few, c.operands.ensures.all);
-      shifted =
-          of_tree o laws tells passing c.requires.two _ _ _ _ _
-          (then_arm o laws tells passing (left_of tree) (right_of tree) c.args.marks.now _ _ _ n m (ap (λ k. 3 * k) (writes_size c.operands.ensures.left)) (ap (λ k. 3 * k) (writes_size c.operands.ensures.right)) front.front (back.front ∙ ap (take m) front.back) (back.back ∙ ap (drop m) front.back)
-          c.args.incoming _ c.args.symbol _ _ _ c.root-before.ensures (c.add-onward.ensures ∙ ap (λ x. o.plus x c.root-before.result.last) c.mul.ensures)
-          _ _ _ _ _ _ _ c.root-left.ensures _ _ _ c.root-right.ensures _ _ (c.add.ensures ∙ ap (λ x. o.plus x c.root-right.result.last) c.mul-2.ensures) c.either_flag.ensures
-          (of_tree o laws tells passing (sym c.operands.ensures.left.tree) _ _ _ _ _ c.shift-a.ensures.shifted) (of_tree o laws tells passing (sym c.operands.ensures.right.tree) _ _ _ _ _ c.shift-b.ensures.shifted));
-    }
+    of_tree o laws tells passing c.requires.two _ _ _ _ _
+    (then_arm o laws tells passing (left_of tree) (right_of tree) c.args.marks.now _ _ _ n m (ap (λ k. 3 * k) (writes_size c.operands.ensures.left)) (ap (λ k. 3 * k) (writes_size c.operands.ensures.right)) front.front (back.front ∙ ap (take m) front.back) (back.back ∙ ap (drop m) front.back)
+    c.args.incoming _ c.args.symbol _ _ _ c.root-before.ensures (c.add-onward.ensures ∙ ap (λ x. o.plus x c.root-before.result.last) c.mul.ensures)
+    _ _ _ _ _ _ _ c.root-left.ensures _ _ _ c.root-right.ensures _ _ (c.add.ensures ∙ ap (λ x. o.plus x c.root-right.result.last) c.mul-2.ensures) c.either_flag.ensures
+    (of_tree o laws tells passing (sym c.operands.ensures.left.tree) _ _ _ _ _ c.shift-a.ensures.shifted) (of_tree o laws tells passing (sym c.operands.ensures.right.tree) _ _ _ _ _ c.shift-b.ensures.shifted))
 
-pub shift_repeat-shift-tests-requires : goal.shift_repeat-shift-tests-requires
-shift_repeat-shift-tests-requires g t c κs w =
-    (omega (arith, c.decreases, c.operand.ensures.all), (w.0, (w.1, writes_fit c.operand.ensures.only _ (omega (arith, c.requires.fits.long, c.operand.ensures.all, c.split_at_mut-below.ensures.front_len)))))
-
-pub shift_repeat-returns : goal.shift_repeat-returns
-shift_repeat-returns g t c =
+pub shift_repeat-returns-clause-shifted : goal.shift_repeat-returns-clause-shifted
+shift_repeat-returns-clause-shifted g t c =
     let o = g.W.Scale.ops in
     let laws = g.W.Scale.laws in
     let tells = g.W.Scale.tells in
     let passing = g.S.Symbol.passing in
-    record {
-      few = omega (arith, c.shift-tests.ensures.few, c.operand.ensures.all);
-      shifted =
-          of_tree o laws tells passing c.requires.one _ _ _ _ _
-          (repeat_arm o laws tells passing (left_of (tree_of c.args.nodes.now)) c.args.marks.now _ _ c.split_at_mut-below.ensures.front c.split_at_mut-below.ensures.back c.args.incoming _ c.args.symbol _ _ _ c.root.ensures c.add-onward.ensures
-          _ _ _ _ _ c.root-only.ensures (of_tree o laws tells passing (sym c.operand.ensures.only.tree) _ _ _ _ _ c.shift-tests.ensures.shifted));
-    }
+    of_tree o laws tells passing c.requires.one _ _ _ _ _
+    (repeat_arm o laws tells passing (left_of (tree_of c.args.nodes.now)) c.args.marks.now _ _ c.split_at_mut-below.ensures.front c.split_at_mut-below.ensures.back c.args.incoming _ c.args.symbol _ _ _ c.root.ensures c.add-onward.ensures
+    _ _ _ _ _ c.root-only.ensures (of_tree o laws tells passing (sym c.operand.ensures.only.tree) _ _ _ _ _ c.shift-tests.ensures.shifted))
 
 pub shift-returns-then-is_zero-2-clause-shifted : goal.shift-returns-then-is_zero-2-clause-shifted
 shift-returns-then-is_zero-2-clause-shifted g t c =
@@ -100,18 +68,6 @@ shift-returns-in_default-clause-shifted g t c =
     let long : length nodes ≡ 1 = omega (arith, c.requires.fits.some, c.if-nodes-gt1.false) in
     let is = empty_single (tree_of nodes) (lone_size (tree_of nodes) nodes whole long) (λ e. c.in_default.not-Leaf (root_is (tree_of nodes) nodes whole _ Leaf c.root_kind.ensures e)) in
     of_tree g.W.Scale.ops g.W.Scale.laws g.W.Scale.tells g.S.Symbol.passing is _ _ _ _ _ (empty_arm g.W.Scale.ops g.W.Scale.laws g.W.Scale.tells g.S.Symbol.passing c.args.incoming c.args.symbol c.args.marks.now)
-
-pub shift_inner-shift_either-requires : goal.shift_inner-shift_either-requires
-shift_inner-shift_either-requires g t c κs w =
-    (omega (arith, c.decreases), (w.0, (w.1, (c.requires.fits, either_root _ (kind_is _ c.args.nodes.now c.requires.fits.whole 2 (c.root_kind.ensures ∙ ap number_of c.in-Either.is))))))
-
-pub shift_inner-shift_then-requires : goal.shift_inner-shift_then-requires
-shift_inner-shift_then-requires g t c κs w =
-    (omega (arith, c.decreases), (w.0, (w.1, (c.requires.fits, then_root _ (kind_is _ c.args.nodes.now c.requires.fits.whole 3 (c.root_kind.ensures ∙ ap number_of c.in-Then.is))))))
-
-pub shift_inner-shift_repeat-requires : goal.shift_inner-shift_repeat-requires
-shift_inner-shift_repeat-requires g t c κs w =
-    (omega (arith, c.decreases), (w.0, (w.1, (c.requires.fits, repeat_root _ (kind_is _ c.args.nodes.now c.requires.fits.whole 4 (c.root_kind.ensures ∙ ap number_of c.in-Repeat.is))))))
 
 pub shift_inner-returns-in_default : goal.shift_inner-returns-in_default
 shift_inner-returns-in_default g t c =

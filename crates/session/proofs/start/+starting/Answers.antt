@@ -1,13 +1,13 @@
-use Rattle.std.proofs.Common.{◌*◌, ◌++◌, length, sym, ap, ◌∙◌, subst, arith}
+use Rattle.std.proofs.Common.{◌*◌, ◌++◌, length, sym, ap, ◌∙◌, arith}
 use Rattle.table.specs.NodeKinds.{number_of}
 use Rattle.table.specs.Tree.{tree_of}
 use Rattle.table.proofs.Postfix.{length_postfix}
 use Rattle.readings.proofs.Sums.{weight_empty, weight_stop}
 use Rattle.session.specs.Marks.{empty_weight}
-use Rattle.session.specs.Shifts.{Binary, left_of, right_of}
+use Rattle.session.specs.Shifts.{left_of, right_of}
 use Rattle.session.specs.Starts.{below_root, first_marks}
 use Rattle.session.proofs.Endings.{empty_either, empty_then}
-use Rattle.session.proofs.Shapes.{leaf_root, either_root, then_root, repeat_root, empty_root, kind_is, writes_fit}
+use Rattle.session.proofs.Shapes.{leaf_root, either_root, then_root, repeat_root, empty_root, kind_is}
 use Rattle.session.proofs.Starting.{root_started, none_below, empty_read}
 use Rattle.session.proofs.start.+starting.Goals as goal
 
@@ -15,20 +15,6 @@ pub start-returns : goal.start-returns
 start-returns g t c =
     root_started g.W.Scale.ops g.W.Scale.tells g.S.Symbol.passing (tree_of c.args.nodes.now) _ c.split_at_mut-below.result.1.now (omega (arith, c.requires.fits.some, c.requires.fits.long, c.split_at_mut-below.ensures.back_len)) _ _ _
     c.start_below.ensures.below c.start_below.ensures.value c.zero.ensures c.zero-2.ensures
-
-pub start_below-start_both-left-requires : goal.start_below-start_both-left-requires
-start_below-start_both-left-requires g t c κs w =
-    let is = either_root _ (kind_is _ c.args.nodes.now c.requires.fits.whole 2 (c.root_kind.ensures ∙ ap number_of c.in-Either.is)) in
-    (omega (arith, c.decreases), (w.0, (w.1, (c.requires.fits, subst Binary (sym is) tt))))
-
-pub start_below-start_both-left-requires-in-Then : goal.start_below-start_both-left-requires-in-Then
-start_below-start_both-left-requires-in-Then g t c κs w =
-    let is = then_root _ (kind_is _ c.args.nodes.now c.requires.fits.whole 3 (c.root_kind.ensures ∙ ap number_of c.in-Then.is)) in
-    (omega (arith, c.decreases), (w.0, (w.1, (c.requires.fits, subst Binary (sym is) tt))))
-
-pub start_below-start-requires : goal.start_below-start-requires
-start_below-start-requires g t c κs w =
-    (omega (arith, c.decreases, c.operand.ensures.all), (w.0, (w.1, writes_fit c.operand.ensures.only _ (omega (arith, c.requires.fits.long, c.operand.ensures.all)))))
 
 pub start_below-returns-in-Leaf : goal.start_below-returns-in-Leaf
 start_below-returns-in-Leaf g t c =
@@ -81,14 +67,6 @@ start_below-returns-in-Empty g t c =
       value = c.one_way-in-Empty.ensures ∙ sym (weight_empty o g.W.Scale.laws g.S.Symbol.passing) ∙ ap (empty_weight o g.S.Symbol.passing) (sym is);
       below = none_below o g.W.Scale.tells g.S.Symbol.passing (tree_of nodes) c.args.below.now (ap (below_root o g.S.Symbol.passing) is) (c.requires.fits.long ∙ ap (λ k. 3 * k) (ap length (sym c.requires.fits.whole) ∙ length_postfix (tree_of nodes)));
     }
-
-pub start_both-start-requires : goal.start_both-start-requires
-start_both-start-requires g t c κs w =
-    (omega (arith, c.decreases, c.operands.ensures.all), (w.0, (w.1, writes_fit c.operands.ensures.left _ c.split_at_mut-first.ensures.front_len)))
-
-pub start_both-start-requires-2 : goal.start_both-start-requires-2
-start_both-start-requires-2 g t c κs w =
-    (omega (arith, c.decreases, c.operands.ensures.all), (w.0, (w.1, writes_fit c.operands.ensures.right _ (omega (arith, c.requires.fits.long, c.operands.ensures.all, c.split_at_mut-first.ensures.back_len)))))
 
 pub start_both-returns : goal.start_both-returns
 start_both-returns g t c =

@@ -1,5 +1,0 @@
-use Rattle.scale.specs.Prices.{price_path}
-use Rattle.scale.proofs.price.ops.PriceScale.add.Goals as goal
-
-pub returns : goal.returns
-returns c = price_path c.smaller.ensures
