@@ -15,6 +15,11 @@ use Rattle.sheet.specs.declared.slip.Returned.{Returned}
 use Rattle.sheet.specs.declared.slip.Slip.{Slip}
 use Rattle.sheet.specs.declared.standing.Standing.{Standing}
 use Rattle.sheet.specs.declared.standing.Standing.TheVariants.{Unfilled, Struck}
+use Rattle.sheet.specs.Account.{gives}
+use Rattle.sheet.specs.Closes.{is_owed}
+use Rattle.sheet.specs.History.{strike}
+use Rattle.sheet.specs.Lanes.{NoneOf}
+use Rattle.sheet.proofs.Owing.{ruling_owes, slip_matches}
 use Rattle.sheet.specs.Calls.{Entered, Moved, Ruled, filled, matches}
 use Rattle.sheet.specs.Entries.{outcome, placed}
 use Rattle.sheet.specs.Refusals.{entry_refusal, own_refusal, session_judged}
@@ -30,7 +35,7 @@ filled_put : (x : Bool) (n : ℕ) (st : Standing) → not (same (cond x (placed 
 filled_put x n st = grind (arith, nat_tests)
 
 -- a slip that matches is struck
-pub struck : (p : Slip) (s after : Sheet) (r : Result (Unit {0}) Returned) → matches s p ≡ true → Ruled Struck p r s after → IsOk r × Moved p.lane Struck s after
+struck : (p : Slip) (s after : Sheet) (r : Result (Unit {0}) Returned) → matches s p ≡ true → Ruled Struck p r s after → IsOk r × Moved p.lane Struck s after
 struck p s after (Ok u) fits d = (refl, d.1)
 struck p s after (Err q) fits d = absurd (false≢true (sym d.0 ∙ fits))
 
@@ -50,17 +55,30 @@ module _ (lane : ℕ) (line : List ℕ) (table : Table) (room : ℕ) (kind : (co
       same_count : n ≡ (line_weight table line).first.value
       same_count = c ∙ ap (λ o. o.count) d.1
 
-  -- an entry whose slip is struck
-  pub settled_struck : (price : ℕ) (p : Slip) (b s after : Sheet) → Entered lane line table room (Ok (entries.Owed price p)) b s → Moved p.lane Struck s after → (n : ℕ) → n ≡ p.count → Settled lane line table (Ok n) b after
-  settled_struck price p b s after d m n c =
-      (line_refused (filled b lane) ∙ d.0, same_count, λ k. grind (arith, nat_tests, m.stands k, d.2.stands k, ap (λ q. q.lane) due_slip, same_count, gives_more (entries.Owed price p) b.number lane (line_weight table line) d.1))
-    where
-      due_slip : p ≡ new_slip b.number lane (line_weight table line).first.value
-      due_slip = slip_due price p b.number lane (line_weight table line) d.1
-
-      same_count : n ≡ (line_weight table line).first.value
-      same_count = c ∙ ap (λ q. q.count) due_slip
-
   -- a refusal
   pub settled_refused : (f : SheetFault) (b s : Sheet) → Entered lane line table room (Err f) b s → Settled lane line table (Err f) b s
   settled_refused f b s d = (line_refused (filled b lane) ∙ d.0, λ k. ap (λ x. filled x k) d.2)
+
+-- the strike of a slip that was just handed out
+module _ (lane : ℕ) (line : List ℕ) (table : Table) (room : ℕ) (e : Entry) (b s : Sheet) (d : Entered lane line table room (Ok e) b s) (price : ℕ) (p : Slip) (is : e ≡ entries.Owed price p) (after : Sheet) (r : Result (Unit {0}) Returned) (m : Ruled Struck p r s after) where
+  fits_slip : matches s p ≡ true
+  fits_slip = slip_matches lane line table room e b s d price p is
+
+  moved : Moved p.lane Struck s after
+  moved = (struck p s after r fits_slip m).1
+
+  pub strike_given : IsOk r
+  strike_given = (struck p s after r fits_slip m).0
+
+  pub strike_owes : NoneOf (is_owed b) → NoneOf (is_owed after)
+  strike_owes none = ruling_owes lane line table room e b s d price p is strike tt after (fits_slip, moved) none
+
+  pub strike_settles : (content table).kind ≡ byte_number → needed table ≤ room → (n : ℕ) → n ≡ p.count → Settled lane line table (Ok n) b after
+  strike_settles kind fits n c =
+      (line_refused lane line table room kind fits (filled b lane) ∙ d.0, same_count, λ k. grind (arith, nat_tests, moved.stands k, d.2.stands k, ap (λ q. q.lane) due_slip, same_count, gives_more e b.number lane (line_weight table line) d.1, ap (λ x. gives (Ok x)) is))
+    where
+      due_slip : p ≡ new_slip b.number lane (line_weight table line).first.value
+      due_slip = slip_due price p b.number lane (line_weight table line) (sym (ap outcome is) ∙ d.1)
+
+      same_count : n ≡ (line_weight table line).first.value
+      same_count = c ∙ ap (λ q. q.count) due_slip

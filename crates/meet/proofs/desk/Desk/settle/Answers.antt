@@ -1,11 +1,8 @@
-use Rattle.std.proofs.Common.{Ok, length, sym, ap, subst, arith}
+use Rattle.std.proofs.Common.{length, sym, ap, arith}
 use Rattle.std.proofs.lemmas.Result.{err_from_is_err_and}
-use Rattle.sheet.specs.Calls.{Entered}
 use Rattle.sheet.specs.Entries.{outcome}
-use Rattle.sheet.specs.History.{strike}
-use Rattle.sheet.proofs.Owing.{ruling_owes, slip_matches}
 use Rattle.meet.proofs.Running.{room_enough}
-use Rattle.meet.proofs.Settling.{settled_plain, settled_refused, settled_struck, struck}
+use Rattle.meet.proofs.Settling.{settled_plain, settled_refused, strike_given, strike_owes, strike_settles}
 use Rattle.meet.proofs.desk.Desk.settle.Goals as goal
 
 pub returns-in_err-enter-clause-settled : goal.returns-in_err-enter-clause-settled
@@ -27,24 +24,17 @@ returns-in-Clean-clause-settled c =
 pub invariant_of-self-in-Owed : goal.invariant_of-self-in-Owed
 invariant_of-self-in-Owed c =
     let desk = c.args.self.now in
-    let fits = slip_matches c.args.lane c.args.line.now desk.table.now (length desk.weights) c.in_ok-enter.field-0 desk.sheet c.enter.new.self c.in_ok-enter.ensures.entered c.in-Owed.price c.in-Owed.slip c.in-Owed.is in
-    let gone = struck c.in-Owed.slip c.enter.new.self c.strike.new.self c.strike.result fits c.strike.ensures in
     record {
       bytes = desk.bytes;
-      settled = ruling_owes c.args.lane c.args.line.now desk.table.now (length desk.weights) c.in_ok-enter.field-0 desk.sheet c.enter.new.self c.in_ok-enter.ensures.entered c.in-Owed.price c.in-Owed.slip c.in-Owed.is strike tt c.strike.new.self (fits, gone.1) desk.settled;
+      settled = strike_owes c.args.lane c.args.line.now desk.table.now (length desk.weights) c.in_ok-enter.field-0 desk.sheet c.enter.new.self c.in_ok-enter.ensures.entered c.in-Owed.price c.in-Owed.slip c.in-Owed.is c.strike.new.self c.strike.result c.strike.ensures desk.settled;
     }
 
 pub unwrap-requires : goal.unwrap-requires
 unwrap-requires c =
     let desk = c.args.self.now in
-    let fits = slip_matches c.args.lane c.args.line.now desk.table.now (length desk.weights) c.in_ok-enter.field-0 desk.sheet c.enter.new.self c.in_ok-enter.ensures.entered c.in-Owed.price c.in-Owed.slip c.in-Owed.is in
-    (struck c.in-Owed.slip c.enter.new.self c.strike.new.self c.strike.result fits c.strike.ensures).0
+    strike_given c.args.lane c.args.line.now desk.table.now (length desk.weights) c.in_ok-enter.field-0 desk.sheet c.enter.new.self c.in_ok-enter.ensures.entered c.in-Owed.price c.in-Owed.slip c.in-Owed.is c.strike.new.self c.strike.result c.strike.ensures
 
 pub returns-in-Owed-clause-settled : goal.returns-in-Owed-clause-settled
 returns-in-Owed-clause-settled c =
     let desk = c.args.self.now in
-    let d = c.in_ok-enter.ensures.entered in
-    let fits = slip_matches c.args.lane c.args.line.now desk.table.now (length desk.weights) c.in_ok-enter.field-0 desk.sheet c.enter.new.self d c.in-Owed.price c.in-Owed.slip c.in-Owed.is in
-    let gone = struck c.in-Owed.slip c.enter.new.self c.strike.new.self c.strike.result fits c.strike.ensures in
-    settled_struck c.args.lane c.args.line.now desk.table.now (length desk.weights) desk.bytes (omega (arith, room_enough desk.table.now)) c.in-Owed.price c.in-Owed.slip desk.sheet c.enter.new.self c.strike.new.self
-    (subst (λ e. Entered c.args.lane c.args.line.now desk.table.now (length desk.weights) (Ok e) desk.sheet c.enter.new.self) c.in-Owed.is d) gone.1 c.count-count.result c.count-count.ensures
+    strike_settles c.args.lane c.args.line.now desk.table.now (length desk.weights) c.in_ok-enter.field-0 desk.sheet c.enter.new.self c.in_ok-enter.ensures.entered c.in-Owed.price c.in-Owed.slip c.in-Owed.is c.strike.new.self c.strike.result c.strike.ensures desk.bytes (omega (arith, room_enough desk.table.now)) c.count-count.result c.count-count.ensures
