@@ -18,7 +18,8 @@ const MOST_WEIGHTS: usize = WEIGHTS_PER_NODE * MOST_NODES;
 // The meet has one sheet, so any number will do.
 const SHEET_NUMBER: u32 = 1;
 
-// A byte table, room to weigh any line by it, and a sheet on which no lane is owed.
+// A byte table, room to weigh any line by it, and a sheet on which no lane is owed. `cases` has settled sheets of its own,
+// since it hands out the slips that a desk strikes at once.
 pub(crate) struct Desk<'t> {
     table: &'t Table,
     weights: [Pair<Count, Price>; MOST_WEIGHTS],
