@@ -1,28 +1,13 @@
 -- What a line that is entered, and struck where it has several readings, answers and leaves. Assumes nothing.
-use Rattle.std.specs.Prelude.{◌≡◌, ℕ, true, cond, List, Some, None, Ok, Err, Result, ◌==◌, nat_le}
-use Rattle.sheet.specs.declared.entry.Entry.{Entry}
-use Rattle.sheet.specs.declared.entry.Entry.TheVariants.{Unreadable, Clean, Owed}
+use Rattle.std.specs.Prelude.{◌≡◌, ℕ, cond, List, Some, None, Ok, Err, Result, ◌==◌, nat_le}
 use Rattle.sheet.specs.declared.fault.SheetFault.{SheetFault}
 use Rattle.sheet.specs.declared.sheet.Sheet.{Sheet}
-use Rattle.sheet.specs.declared.standing.Standing.TheVariants.{Struck}
-use Rattle.sheet.specs.Calls.{Moved, filled, matches}
+use Rattle.sheet.specs.Calls.{filled}
 use Rattle.sheet.specs.Faults.{refusal_of}
 use Rattle.sheet.specs.Refusals.{own_refusal}
 use Rattle.sheet.specs.Weighing.{line_weight}
 use Rattle.table.specs.declared.table.Table.{Table}
 use Rattle.meet.specs.Rows.{fault_row, row}
-
--- a slip in an answer is for this sheet
-abbrev pub Matched : Sheet → Entry → Type 0
-Matched s Unreadable = Unit {0}
-Matched s (Clean p) = Unit {0}
-Matched s (Owed p slip) = matches s slip ≡ true
-
--- an answer's slip is struck, and without one the sheet stays as it is
-abbrev pub StruckBy : Entry → Sheet → Sheet → Type 0
-StruckBy Unreadable before after = after ≡ before
-StruckBy (Clean p) before after = after ≡ before
-StruckBy (Owed p slip) before after = Moved slip.lane Struck before after
 
 -- the number of readings, and a lane that is filled where there is one; or the refusal, and the lanes as they were
 abbrev pub Settled : ℕ → List ℕ → Table → Result ℕ SheetFault → Sheet → Sheet → Type 0

@@ -10,7 +10,8 @@ mod entering;
 mod moves;
 mod ruling;
 
-// A sheet for lanes 1 to 10. It is never let go: it is closed.
+// A sheet for lanes 1 to 10. It is never let go: it is closed. The sets stand side by side, since the type says that they
+// are apart, and one more set is then one more field.
 pub struct Sheet {
     number: u32,
     clean: LaneSet,
