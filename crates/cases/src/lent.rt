@@ -47,18 +47,18 @@ fn answer(heap: Global, text: &[u8], lent: usize) -> Result<String, AllocError> 
     let outcome = Outcome::of(text::read(text, nodes.as_mut_slice()));
     match outcome.0 {
         Ok(count) => {
-            let kept = yes_or_no(all_are(&nodes[count..], MARK));
+            let kept = yes_or_no(all_are(nodes.as_slice(), count, MARK));
             format!(in heap; "{outcome}, the others kept: {kept}")
         }
         Err(_) => {
-            let emptied = yes_or_no(all_are(nodes.as_slice(), BLANK));
+            let emptied = yes_or_no(all_are(nodes.as_slice(), 0, BLANK));
             format!(in heap; "{outcome}, all emptied: {emptied}")
         }
     }
 }
 
-fn all_are(nodes: &[Node], wanted: Node) -> bool {
-    nodes.iter().all(|node| *node == wanted)
+fn all_are(nodes: &[Node], from: usize, wanted: Node) -> bool {
+    nodes.iter().skip(from).all(|node| *node == wanted)
 }
 
 fn yes_or_no(answer: bool) -> &'static str {

@@ -81,7 +81,7 @@ fn alone(
         line,
         table,
         weights.as_mut_slice(),
-        |owing| owing.strike(),
+        Owing::strike,
     );
     let lanes = shown(heap, sheet.close())?;
     format!(in heap; "{answer}; {lanes}")
@@ -127,15 +127,15 @@ fn listed(heap: Global, lanes: LaneSet) -> Result<String, AllocError> {
 
 // Several lines on one sheet: a lane whose line has a reading takes no other.
 fn heat(table: &Table, weights: &mut [Pair<Count, Price>]) -> ([Answer; 9], Lanes) {
-    let (sheet, a) = ruled(Settled::open(9), 1, b"a", table, weights, |owing| owing.take());
-    let (sheet, b) = ruled(sheet, 1, b"aa", table, weights, |owing| owing.take());
-    let (sheet, c) = ruled(sheet, 2, b"b", table, weights, |owing| owing.take());
-    let (sheet, d) = ruled(sheet, 2, b"aaa", table, weights, |owing| owing.take());
-    let (sheet, e) = ruled(sheet, 2, b"a", table, weights, |owing| owing.take());
-    let (sheet, f) = ruled(sheet, 3, b"a", table, weights, |owing| owing.strike());
-    let (sheet, g) = ruled(sheet, 3, b"", table, weights, |owing| owing.take());
-    let (sheet, h) = ruled(sheet, 10, b"a", table, weights, |owing| owing.strike());
-    let (sheet, i) = ruled(sheet, 9, b"a", table, weights, |owing| owing.take());
+    let (sheet, a) = ruled(Settled::open(9), 1, b"a", table, weights, Owing::take);
+    let (sheet, b) = ruled(sheet, 1, b"aa", table, weights, Owing::take);
+    let (sheet, c) = ruled(sheet, 2, b"b", table, weights, Owing::take);
+    let (sheet, d) = ruled(sheet, 2, b"aaa", table, weights, Owing::take);
+    let (sheet, e) = ruled(sheet, 2, b"a", table, weights, Owing::take);
+    let (sheet, f) = ruled(sheet, 3, b"a", table, weights, Owing::strike);
+    let (sheet, g) = ruled(sheet, 3, b"", table, weights, Owing::take);
+    let (sheet, h) = ruled(sheet, 10, b"a", table, weights, Owing::strike);
+    let (sheet, i) = ruled(sheet, 9, b"a", table, weights, Owing::take);
     ([a, b, c, d, e, f, g, h, i], sheet.close())
 }
 
