@@ -163,12 +163,7 @@ fn asked<'t, 'w, W: Scale + Weighed>(
 
 // A session over a list that is one weight too short.
 fn short_session(heap: Global, table: &Table, symbol: Touch) -> Result<String, AllocError> {
-    let asks = [
-        Ask::Read(PAD),
-        Ask::Read(symbol),
-        Ask::Weigh,
-        Ask::Restart,
-    ];
+    let asks = [Ask::Read(PAD), Ask::Read(symbol), Ask::Weigh, Ask::Restart];
     let mut weights = lent(heap, Count::unit(), 5)?;
     let mut session = Session::open(table, weights.as_mut_slice());
     let turns = asked(heap, &mut session, &asks);

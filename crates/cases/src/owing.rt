@@ -106,11 +106,20 @@ impl Settled {
         match sheet.enter(lane, line, table, weights) {
             Err(fault) => After::Settled(Settled { sheet }, Answer(Err(fault.refusal()))),
             Ok(entry) => match entry {
-                Entry::Unreadable => After::Settled(Settled { sheet }, Answer(Ok(Reading::Unreadable))),
-                Entry::Clean { price } => After::Settled(Settled { sheet }, Answer(Ok(Reading::Clean(price)))),
+                Entry::Unreadable => After::Settled(
+                    Settled { sheet },
+                    Answer(Ok(Reading::Unreadable)),
+                ),
+                Entry::Clean { price } => After::Settled(
+                    Settled { sheet },
+                    Answer(Ok(Reading::Clean(price))),
+                ),
                 Entry::Owed { price, slip } => {
                     let note = note_of(&slip);
-                    After::Owing(Owing { sheet, slip }, Answer(Ok(Reading::Owed { price, note })))
+                    After::Owing(
+                        Owing { sheet, slip },
+                        Answer(Ok(Reading::Owed { price, note })),
+                    )
                 }
             },
         }
@@ -181,8 +190,14 @@ impl Owing {
         match sheet.enter(lane, line, table, weights) {
             Err(fault) => same_twice(Owing { sheet, slip }, Answer(Err(fault.refusal()))),
             Ok(entry) => match entry {
-                Entry::Unreadable => same_twice(Owing { sheet, slip }, Answer(Ok(Reading::Unreadable))),
-                Entry::Clean { price } => same_twice(Owing { sheet, slip }, Answer(Ok(Reading::Clean(price)))),
+                Entry::Unreadable => same_twice(
+                    Owing { sheet, slip },
+                    Answer(Ok(Reading::Unreadable)),
+                ),
+                Entry::Clean { price } => same_twice(
+                    Owing { sheet, slip },
+                    Answer(Ok(Reading::Clean(price))),
+                ),
                 Entry::Owed {
                     price,
                     slip: second,

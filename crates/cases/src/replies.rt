@@ -71,7 +71,7 @@ impl fmt::Display for Sign {
     fn fmt<W: fmt::Write>(&self, f: &mut fmt::Formatter<W>) -> fmt::Result {
         match self {
             Sign::Byte(byte) => {
-                let c = *byte as char;
+                let c = char::from(*byte);
                 write!(f, "{c}")
             }
             Sign::Touch(0, gap) => write!(f, "pad {gap}"),

@@ -17,8 +17,8 @@ fn glyph(byte: u8) -> char
     ensures value { result ≡ shown_byte byte }
     ensures ascii { result < 128 }
 {
-    if is_printable(byte as u32) {
-        byte as char
+    if is_printable(u32::from(byte)) {
+        char::from(byte)
     } else {
         '?'
     }

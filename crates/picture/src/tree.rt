@@ -46,7 +46,7 @@ impl fmt::Display for Outline<'_> {
 fn apart(operands: &[Node]) -> (&[Node], &[Node])
     ensures { Parted operands.now result.0.now result.1.now }
 {
-    let right = operands.last().map_or(0, |node| node.size as usize);
+    let right = operands.last().map_or(0, |node| usize::from(node.size));
     operands.split_at(operands.len().saturating_sub(right))
 }
 

@@ -158,7 +158,7 @@ pub(crate) fn operands(nodes: &[Node]) -> (&[Node], &[Node])
     ensures all { length nodes.now ≡ length result.0.now + length result.1.now + 1 }
 {
     let top = nodes.len() - 1;
-    let right = nodes[top - 1].size as usize;
+    let right = usize::from(nodes[top - 1].size);
     nodes[..top].split_at(top - right)
 }
 

@@ -40,11 +40,11 @@ impl From<SheetFault> for Refusal {
             SheetFault::Session { lane, fault } => {
                 return fault.refusal();
             }
-            SheetFault::BadLane(lane) => (11, lane as usize),
+            SheetFault::BadLane(lane) => (11, usize::from(lane)),
             SheetFault::LongLine => (12, MOST_SYMBOLS),
-            SheetFault::Filled(lane) => (21, lane as usize),
-            SheetFault::NoSuchSlip(lane) => (22, lane as usize),
-            SheetFault::LanesOwed(lane) => (23, lane as usize),
+            SheetFault::Filled(lane) => (21, usize::from(lane)),
+            SheetFault::NoSuchSlip(lane) => (22, usize::from(lane)),
+            SheetFault::LanesOwed(lane) => (23, usize::from(lane)),
         };
         Refusal {
             number,

@@ -348,7 +348,7 @@ fn inner(kind: NodeKind, size: u16) -> Node
     ensures { result ≡ inner (number_of kind) size }
 {
     Node {
-        kind: kind as u8,
+        kind: u8::from(kind),
         size,
         ..BLANK
     }
