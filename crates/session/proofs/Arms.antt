@@ -73,8 +73,8 @@ module _ {W S : Type 0} (o : Ops W) (laws : Semiring o) (tells : Tells o) (passi
         )
 
   -- the operand of a repeat is shifted, and its root's weights are read
-  pub repeat_arm : (a : Tree) (ms below top : List W) → below ≡ take (length ms - 3) ms → top ≡ drop (length ms - 3) ms → (i j : W) (s : S) (q r t : W) → drop (length below - 3) below ≡ q ∷ r ∷ t ∷ [] → j ≡ o.plus i r → (ma : List W) (n : ℕ) (e l f : W) → drop (length ma - 3) ma ≡ e ∷ l ∷ f ∷ [] → Shifted o passing a below j s ma n → Shifted o passing (repeat a) ms i s (ma ++ set (set top 1 l) 2 f) n
-  repeat_arm a ms below top bs tp i j s q r t bt jx ma n e l f at only h p =
+  pub repeat_arm : (a : Tree) (ms below top : List W) → below ≡ take (length ms - 3) ms → top ≡ drop (length ms - 3) ms → (i j : W) (s : S) (q r t : W) → drop (length below - 3) below ≡ q ∷ r ∷ t ∷ [] → j ≡ o.plus i r → (ma : List W) (n : ℕ) (e l f : W) → drop (length ma - 3) ma ≡ e ∷ l ∷ f ∷ [] → (c m g : W) → drop (length ma - 3) ma ≡ c ∷ m ∷ g ∷ [] → Shifted o passing a below j s ma n → Shifted o passing (repeat a) ms i s (ma ++ set (set top 1 l) 2 g) n
+  repeat_arm a ms below top bs tp i j s q r t bt jx ma n e l f at c m g again only h p =
       let k = to_repeated o passing a h in
       let new = taken i s ∷ h in
       let was : below ≡ marks o passing a k = bs ∙ below_root ms (marks o passing a k) (three o passing (repeat a) h) p refl in
@@ -83,8 +83,9 @@ module _ {W S : Type 0} (o : Ops W) (laws : Semiring o) (tells : Tells o) (passi
       let next : taken j s ∷ k ≡ to_repeated o passing a new = λ d. taken (onward d) s ∷ k in
       let one = only k was in
       let ma_is : ma ≡ marks o passing a (to_repeated o passing a new) = one.0 ∙ ap (marks o passing a) next in
-      let x = root_read (marks_rooted o passing a (to_repeated o passing a new)) (ap (λ q. drop (length q - 3) q) (sym ma_is) ∙ at) in (
-        (λ d. ma_is d ++ set (set ((tp ∙ at_root ms (marks o passing a k) (three o passing (repeat a) h) p refl) d) 1 ((x.1 ∙ sym (last_repeat o laws passing a new)) d)) 2 (x.2 d)),
+      let x = root_read (marks_rooted o passing a (to_repeated o passing a new)) (ap (λ q. drop (length q - 3) q) (sym ma_is) ∙ at) in
+      let y = root_read (marks_rooted o passing a (to_repeated o passing a new)) (ap (λ q. drop (length q - 3) q) (sym ma_is) ∙ again) in (
+        (λ d. ma_is d ++ set (set ((tp ∙ at_root ms (marks o passing a k) (three o passing (repeat a) h) p refl) d) 1 ((x.1 ∙ sym (last_repeat o laws passing a new)) d)) 2 (y.2 d)),
         one.1 ∙ ap (λ u. live o passing a u k) onward,
       )
 

@@ -1,5 +1,5 @@
 -- A map between two scales carries every weight, and so every reply of a succession. Assumes nothing.
-use Rattle.std.proofs.Common.{◌≡◌, ℕ, Bool, List, [], ◌∷◌, map, length, Some, None, Ok, Err, Option, Result, sym, refl, ap, ◌∙◌, subst, arith}
+use Rattle.std.proofs.Common.{◌≡◌, ℕ, Bool, List, [], ◌∷◌, map, length, Ok, Err, Result, sym, refl, ap, ◌∙◌, subst, arith}
 use Rattle.std.specs.Result.{result_map_both}
 use Rattle.scale.specs.Semiring.{Ops}
 use Rattle.table.specs.declared.node.Leaf.{Leaf}
@@ -15,22 +15,6 @@ use Rattle.session.specs.declared.turn.Reply.{Reply}
 use Rattle.session.specs.declared.turn.Reply.TheVariants.{Took, Weighs, Restarted}
 use Rattle.session.specs.declared.turn.Turn.{Turn}
 use Rattle.session.specs.Runs.{Carries, Right, AllRight, ReadRight, asks, carried, held_next, replies}
-use Rattle.session.proofs.Lending.{none_some}
-
-some_same : {A : Type 0} (d x y : A) → ◌≡◌ {A = Option A} (Some x) (Some y) → x ≡ y
-some_same {A} d x y e = ap value e
-  where
-    value : Option A → A
-    value None = d
-    value (Some z) = z
-
-abbrev head_or : {A : Type 0} → A → List A → A
-head_or d [] = d
-head_or d (x ∷ xs) = x
-
-abbrev tail_of : {A : Type 0} → List A → List A
-tail_of [] = []
-tail_of (x ∷ xs) = xs
 
 module _ {A B : Type 0} (a : Ops A) (b : Ops B) (f : A → B) (carry : Carries a b f) where
   product_carried : (ps : List ℕ) → product b (map b.priced ps) ≡ f (product a (map a.priced ps))
@@ -53,13 +37,13 @@ module _ {A B : Type 0} (a : Ops A) (b : Ops B) (f : A → B) (carry : Carries a
     read_carried w s (Ok (Took n)) (Ok (Took m)) x y = (refl, refl)
     read_carried w s (Ok (Took n)) (Ok (Weighs v)) x y = absurd y
     read_carried w s (Ok (Took n)) (Ok Restarted) x y = absurd y
-    read_carried w s (Ok (Took n)) (Err g) x y = absurd (none_some (sym x.0 ∙ y))
+    read_carried w s (Ok (Took n)) (Err g) x y = cc (x.0)
     read_carried w s (Ok (Weighs v)) q x y = absurd x
     read_carried w s (Ok Restarted) q x y = absurd x
-    read_carried w s (Err e) (Ok (Took m)) x y = absurd (none_some (sym y.0 ∙ x))
+    read_carried w s (Err e) (Ok (Took m)) x y = cc (y.0)
     read_carried w s (Err e) (Ok (Weighs v)) x y = absurd y
     read_carried w s (Err e) (Ok Restarted) x y = absurd y
-    read_carried w s (Err e) (Err g) x y = (ap Err (some_same e g e (sym y ∙ x)), refl)
+    read_carried w s (Err e) (Err g) x y = (cc, refl)
 
     turn_carried : (w : List S) (k : Ask S) (r : Result (Reply A) SessionFault) (q : Result (Reply B) SessionFault) → Right a passing number allowed table w k r → Right b passing number allowed table w k q → (answer (λ y. y) q ≡ answer f r) × (held_next w k q ≡ held_next w k r)
     turn_carried w (Read s) r q x y = read_carried w s r q x y
@@ -71,7 +55,8 @@ module _ {A B : Type 0} (a : Ops A) (b : Ops B) (f : A → B) (carry : Carries a
     turns_carried w [] (v ∷ vs) x y e = absurd (let l = ap length e in omega arith)
     turns_carried w (u ∷ us) [] x y e = absurd (let l = ap length e in omega arith)
     turns_carried w (u ∷ us) (v ∷ vs) x y e =
-        let same : u.ask ≡ v.ask = ap (head_or u.ask) e in
+        let same : u.ask ≡ v.ask = cc in
+        let rest : asks us ≡ asks vs = cc in
         let here = turn_carried w u.ask u.reply v.reply x.0 (subst (λ k. Right b passing number allowed table w k v.reply) (sym same) y.0) in
         let held : held_next w v.ask v.reply ≡ held_next w u.ask u.reply = ap (λ k. held_next w k v.reply) (sym same) ∙ here.1 in
-        λ i. here.0 i ∷ turns_carried (held_next w u.ask u.reply) us vs x.1 (subst (λ l. AllRight b passing number allowed table l vs) held y.1) (ap tail_of e) i
+        λ i. here.0 i ∷ turns_carried (held_next w u.ask u.reply) us vs x.1 (subst (λ l. AllRight b passing number allowed table l vs) held y.1) rest i

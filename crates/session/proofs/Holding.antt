@@ -1,18 +1,13 @@
 -- What a session holds after one symbol more. Assumes nothing.
-use Rattle.std.proofs.Common.{◌≡◌, ℕ, ◌<◌, ◌≤◌, Bool, true, false, cond, ◌&&◌, eqb, ltb, leb, List, Some, None, Option, refl, arith}
-use Rattle.std.proofs.lemmas.Bool.{ltb-true}
+use Rattle.std.proofs.Common.{◌≡◌, ℕ, ◌<◌, ◌≤◌, Bool, true, false, cond, List, None, arith}
+use Rattle.std.proofs.lemmas.Bool.Decides.{nat_tests}
 use Rattle.scale.specs.Semiring.{Ops}
 use Rattle.table.specs.declared.node.Leaf.{Leaf}
 use Rattle.table.specs.declared.table.Table.{Table}
-use Rattle.table.specs.Content.{content, tree}
 use Rattle.table.specs.Tree.{Tree, empty, leaf, either, then, repeat}
-use Rattle.session.specs.declared.fault.SessionFault.{SessionFault}
-use Rattle.session.specs.declared.fault.SessionFault.TheVariants.{BadSymbol, ShortList, Full}
 use Rattle.session.specs.Faults.{most_symbols}
 use Rattle.session.specs.Marks.{Taken, empty_weight, last_weight, live, to_right}
-use Rattle.session.specs.Sessions.{leaves, read_fault, symbol_fault}
-use Rattle.session.specs.Words.{needed}
-use Rattle.session.proofs.Lending.{none_some}
+use Rattle.session.specs.Sessions.{leaves, read_fault}
 
 -- at most all leaves are live
 pub live_few : {W S : Type 0} (o : Ops W) (passing : Leaf → S → Bool) (t : Tree) (i : W) (h : List (Taken W S)) → live o passing t i h ≤ leaves t
@@ -27,15 +22,5 @@ live_few o passing (then a b) i h = omega (arith, live_few o passing a i h, live
 live_few o passing (repeat a) i h = live_few o passing a _ _
 
 -- a symbol that is taken finds room for itself
-clear_symbol : (b c : Bool) (held : ℕ) → None ≡ cond b (cond c None (Some Full)) (Some (BadSymbol held)) → c ≡ true
-clear_symbol true true held e = refl
-clear_symbol true false held e = absurd (none_some e)
-clear_symbol false c held e = absurd (none_some e)
-
-clear_room : (b : Bool) (o : Option SessionFault) (n : ℕ) → None ≡ cond b o (Some (ShortList n)) → None ≡ o
-clear_room true o n e = e
-clear_room false o n e = absurd (none_some e)
-
 pub held_below : (number : ℕ) (allowed : Bool) (t : Table) (room held : ℕ) → None ≡ read_fault number allowed t room held → held < most_symbols
-held_below number allowed t room held e =
-    ltb-true held most_symbols (clear_symbol (eqb (content t).kind number && allowed) (ltb held most_symbols) held (clear_room (leb (needed (tree t)) room) (symbol_fault number allowed t held) (needed (tree t)) e))
+held_below number allowed t room held e = grind (arith, nat_tests)

@@ -1,6 +1,6 @@
 -- A session's step over a lent list: room, the front of the list, and the root's weight. Assumes nothing.
-use Rattle.std.proofs.Common.{◌≡◌, ℕ, ◌-◌, ◌*◌, ◌≤◌, Bool, cond, leb, List, [], ◌∷◌, ◌++◌, reverse, length, take, drop, Some, None, Option, refl, sym, ap, ◌∙◌, subst, inl, inr, arith, length-take}
-use Rattle.std.proofs.lemmas.Bool.Decides.{leb_tells}
+use Rattle.std.proofs.Common.{◌≡◌, ℕ, ◌-◌, ◌*◌, ◌≤◌, Bool, cond, leb, List, [], ◌∷◌, ◌++◌, reverse, length, take, drop, Some, None, Option, refl, sym, ap, ◌∙◌, subst, arith, length-take}
+use Rattle.std.proofs.lemmas.Bool.Decides.{nat_tests}
 use Rattle.scale.specs.Semiring.{Ops, Semiring}
 use Rattle.table.specs.declared.node.Leaf.{Leaf}
 use Rattle.table.specs.declared.node.Node.{Node}
@@ -15,24 +15,17 @@ use Rattle.session.specs.Marks.{empty_weight, flag_weight, last_weight, to_root}
 use Rattle.session.proofs.Rooted.{root_read, marks_rooted}
 use Rattle.session.proofs.Wording.{front_new, behind_same, same_tree, nodes_long, nodes_fit, root_after}
 
-abbrev IsNone : {A : Type 0} → Option A → Type 0
-IsNone None = Unit {0}
-IsNone (Some x) = ⊥
-
-pub none_some : {A : Type 0} {x : A} → ◌≡◌ {A = Option A} None (Some x) → ⊥
-none_some e = subst IsNone e tt
-
 -- what is answered of a list by the weights needed: what else may be wrong, or that it is too short
 abbrev by_room : ℕ → ℕ → Option SessionFault → Option SessionFault
 by_room n room o = cond (leb n room) o (Some (ShortList n))
 
 -- a list that is not refused is long enough
 pub room_there : (n room : ℕ) → None ≡ by_room n room None → n ≤ room
-room_there n room e = elim (leb_tells n room) [ inl h ↦ h.1 | inr h ↦ absurd (none_some (e ∙ ap (λ b. cond b None (Some (ShortList n))) h.0)) ]
+room_there n room e = grind (arith, nat_tests)
 
 -- and then what else may be wrong is all
 pub room_then : (n m room : ℕ) (o : Option SessionFault) → n ≡ m → None ≡ by_room n room None → None ≡ o → None ≡ by_room m room o
-room_then n m room o same e f = f ∙ sym (elim (leb_tells n room) [ inl h ↦ ap (λ b. cond b o (Some (ShortList n))) h.0 | inr h ↦ absurd (none_some (e ∙ ap (λ b. cond b None (Some (ShortList n))) h.0)) ]) ∙ ap (λ k. by_room k room o) same
+room_then n m room o same e f = grind (arith, nat_tests)
 
 module _ (t : Tree) (ns : List Node) (whole : postfix t ≡ ns) {W : Type 0} (ws : List W) (n : ℕ) (same : n ≡ needed t) (room : n ≤ length ws) where
   pub front_long : length (take n ws) ≡ n

@@ -133,9 +133,9 @@ fn shift_repeat<W: Scale, S: Symbol>(
     let (below, top) = marks.split_at_mut(marks.len() - WEIGHTS_PER_NODE);
     let onward = incoming.add(root(below).last);
     let tests = shift(operand(nodes), below, onward, symbol);
-    let only = root(below);
-    top[LAST_WEIGHT] = only.last;
-    top[FLAG] = only.flag;
+    // Read one by one: a root that is bound here is copied whole, which took half as much stack again.
+    top[LAST_WEIGHT] = root(below).last;
+    top[FLAG] = root(below).flag;
     tests
 }
 

@@ -49,7 +49,7 @@ shift_repeat-returns-clause-shifted g t c =
     let passing = g.S.Symbol.passing in
     of_tree o laws tells passing c.requires.one _ _ _ _ _
     (repeat_arm o laws tells passing (left_of (tree_of c.args.nodes.now)) c.args.marks.now _ _ c.split_at_mut-below.ensures.front c.split_at_mut-below.ensures.back c.args.incoming _ c.args.symbol _ _ _ c.root.ensures c.add-onward.ensures
-    _ _ _ _ _ c.root-only.ensures (of_tree o laws tells passing (sym c.operand.ensures.only.tree) _ _ _ _ _ c.shift-tests.ensures.shifted))
+    _ _ _ _ _ c.root-2.ensures _ _ _ c.root-3.ensures (of_tree o laws tells passing (sym c.operand.ensures.only.tree) _ _ _ _ _ c.shift-tests.ensures.shifted))
 
 pub shift-returns-then-is_zero-2-clause-shifted : goal.shift-returns-then-is_zero-2-clause-shifted
 shift-returns-then-is_zero-2-clause-shifted g t c =
