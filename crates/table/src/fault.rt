@@ -4,7 +4,8 @@ ghost use Rattle.table.specs.Faults.{refusal_of, refusal_text};
 
 use std::fmt;
 
-// A refusal as it is written down: its number, its place, and the layer whose call refused.
+// A refusal as it is written down, three numbers: its own, its place, and that of the layer whose call refused. The
+// faults themselves are enums.
 #[derive(Clone, Copy, PartialEq, Eq, Debug)]
 pub struct Refusal {
     pub number: u8,

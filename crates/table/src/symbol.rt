@@ -17,7 +17,8 @@ pub trait Symbol: Copy {
 
     ghost any: { Leaf };
 
-    // The number that a table keeps to say for which kind it was judged.
+    // The number that a table keeps to say for which kind it was judged. It is a number, since kinds are written outside
+    // this crate too, and several may share one.
     fn kind() -> u8
         ensures { result ≡ number };
 

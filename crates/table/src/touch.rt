@@ -7,7 +7,7 @@ use crate::node::Leaf;
 use crate::symbol::Symbol;
 
 // A touch: where it came from (0 pad, 1 button, 2 start signal) and the time since the touch before, in thousandths
-// of a second. A source of 3 and above can be written down, and is not allowed.
+// of a second. A source of 3 and above can come in, and is not allowed, so the source is a number.
 #[derive(Clone, Copy, PartialEq, Eq, Debug)]
 pub struct Touch {
     pub source: u8,

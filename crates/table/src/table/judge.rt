@@ -40,7 +40,7 @@ impl Table {
         Ok(())
     }
 
-    // The number of the kind that the table was judged for.
+    // The number of the kind of symbol that the table was judged for.
     pub fn kind(&self) -> u8
         ensures { result ≡ (content self.now).kind }
     {
@@ -87,7 +87,8 @@ fn judge_count(nodes: &[Node]) -> Result<(), TableFault>
     Ok(())
 }
 
-// The nodes one by one, up to the first that is wrong.
+// The nodes one by one, up to the first that is wrong. The loop goes over places, since a node is judged against those
+// before it and its place is what a fault says.
 #[tactic(auto, using(crate::proofs::Verdicts::onward_more, crate::proofs::Verdicts::onward_refused))]
 fn judge_nodes<S: Symbol>(nodes: &[Node]) -> Result<(), TableFault>
     ensures { answered result ≡ first_wrong (wrong S.Symbol.admitted nodes.now) (length nodes.now) 0 }
