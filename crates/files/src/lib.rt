@@ -11,7 +11,8 @@ use std::io::{ErrorKind, Read};
 // How many bytes of a file are read; what follows them is not looked at.
 pub const MOST_READ: usize = 16_384;
 
-// The file's first bytes. A file that is not there counts as empty; any other failure to read it is handed on.
+// The file's first bytes. A file that is not there counts as empty; any other failure to read it is handed on. What a file
+// has is not known to a contract, so this one says no more than how much is read; that of `first_bytes` says the rest.
 pub fn front(rt: &HostRuntime, heap: Global, path: &str) -> io::Result<Vec<u8>>
     ensures { IfOk result (λ bytes. vec_len bytes ≤ MOST_READ) }
 {

@@ -3,7 +3,7 @@ ghost use Rattle.std.specs.Prelude.{◌≡◌, ◌<◌, map, Some};
 ghost use Rattle.picture.specs.Words.{printable, shown_byte, symbol, leaf_words, node_words};
 
 use std::fmt;
-use table::{Node, NodeKind};
+use table::{Leaf, Node, NodeKind};
 
 // Whether a byte is printable ASCII, the blank among it.
 fn is_printable(byte: u32) -> bool
@@ -60,16 +60,13 @@ impl fmt::Display for Symbol {
 
 // The bytes that pass a leaf, from the first to the last.
 #[derive(Clone, Copy)]
-struct Span {
-    low: u32,
-    high: u32,
-}
+struct Span(Leaf);
 
 impl fmt::Display for Span {
-    ghost output = { λ s. Some (leaf_words s.low s.high) };
+    ghost output = { λ s. Some (leaf_words s.0.low s.0.high) };
 
     fn fmt<W: fmt::Write>(&self, f: &mut fmt::Formatter<W>) -> fmt::Result {
-        let Span { low, high } = *self;
+        let Leaf { low, high, .. } = self.0;
         let first = Symbol(low);
         let last = Symbol(high);
         if low == 0 && high == 255 {
@@ -95,17 +92,11 @@ impl fmt::Display for Words<'_> {
         let node = self.0;
         match NodeKind::try_from(node.kind) {
             Ok(NodeKind::Empty) => f.write_str("nothing"),
-            Ok(NodeKind::Leaf) => {
-                let span = Span {
-                    low: node.low,
-                    high: node.high,
-                };
-                span.fmt(f)
-            }
+            Ok(NodeKind::Leaf) => Span(Leaf::from(*node)).fmt(f),
             Ok(NodeKind::Either) => f.write_str("one of these two"),
             Ok(NodeKind::Then) => f.write_str("these two in turn"),
             Ok(NodeKind::Repeat) => f.write_str("any number of"),
-            // A checked table has no other kind.
+            // A list's node may be of an unknown kind, though a checked table has none.
             Err(_) => f.write_str("an unknown node"),
         }
     }

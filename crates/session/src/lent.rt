@@ -1,4 +1,5 @@
-// One session's step over its lent list of weights.
+// One session's step over its lent list of weights. A session's methods hand the list to functions, as the marks of a
+// whole word do, which have no session.
 ghost use Rattle.std.specs.Prelude.{◌≡◌, List, length, IfOk, if◌then◌else◌, Some, None, MatchResult, nat_le};
 ghost use Rattle.std.specs.Result.{result_err};
 ghost use Rattle.readings.specs.Weights.{weight};

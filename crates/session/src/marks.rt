@@ -14,7 +14,7 @@ use table::{Leaf, Node, NodeKind, Symbol};
 // How many weights a node takes.
 pub const WEIGHTS_PER_NODE: usize = 3;
 
-// Where each of a node's weights stands among its three.
+// Where each of a node's weights stands among its three, since they are lent as one flat list.
 pub(crate) const EMPTY_WEIGHT: usize = 0;
 
 pub(crate) const LAST_WEIGHT: usize = 1;
@@ -140,6 +140,9 @@ fn shift_repeat<W: Scale, S: Symbol>(
 }
 
 // The kind of a pattern's root. A checked list has known kinds only.
+//
+// That the nodes write out a tree is asked of this and the next two in a clause. A type that says it would be made anew at
+// each cut, where `Fits` says it already.
 #[inline(always)]
 pub(crate) fn root_kind(nodes: &[Node]) -> NodeKind
     requires some { 1 ≤ length nodes.now }

@@ -56,8 +56,7 @@ pub fn run_both<A: Scale, B: Scale, S: Symbol>(
     judge_weights(table, there)?;
     // Both lists are judged, so neither run is refused.
     run_turns(table, here, first)?;
-    run_turns(table, there, second)?;
-    Ok(())
+    run_turns(table, there, second)
 }
 
 // One turn after another.

@@ -11,7 +11,7 @@ use crate::marks::{
 use scale::Scale;
 use table::{Node, NodeKind, Symbol};
 
-// Writes the first marks of a pattern.
+// Writes the first marks of a pattern. Nodes and marks are two parameters here as in `shift`, for the same reason.
 #[cycle(starting)]
 pub(crate) fn start<W: Scale, S: Symbol>(nodes: &[Node], marks: &mut [W])
     requires fits { Fits (tree_of nodes.now) nodes.now (length marks.old) }

@@ -54,7 +54,7 @@ impl From<SheetFault> for Refusal {
     }
 }
 
-// A session's fault and the lane that was to be entered.
+// A session's fault and the lane that was to be entered: what `?` turns into the sheet's fault, which has both.
 #[derive(Clone, Copy, PartialEq, Eq, Debug)]
 pub struct AtLane {
     pub lane: u8,

@@ -39,7 +39,7 @@ impl LaneSet {
         (0..16).find(|lane| self.has(*lane))
     }
 
-    // The same set but for one lane, which is in it or not as told.
+    // The same set but for one lane, which is in it or not as told, so that a move names every set once.
     pub(crate) fn put(self, lane: Lane, member: bool) -> LaneSet
         ensures { Put lane member self result }
     {

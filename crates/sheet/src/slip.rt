@@ -5,8 +5,8 @@ ghost use Rattle.sheet.specs.Slips.{new_slip};
 use crate::fault::SheetFault;
 use crate::lane::Lane;
 
-// Handed out by a sheet for a lane with several readings. It may go only when it is spent, which its `drop` reads from the
-// flag.
+// Handed out by a sheet for a lane with several readings. The rule is that its `drop` is allowed only when it is spent, so
+// it has a flag that says so.
 pub struct Slip {
     sheet: u32,
     pub(crate) lane: Lane,

@@ -51,7 +51,8 @@ impl From<u8> for Class {
     }
 }
 
-// The place where a text leaves the grammar, or where its brackets get too deep.
+// The place where a text leaves the grammar, or where its brackets get too deep: the only two ways in which the methods
+// below fail.
 #[derive(Clone, Copy)]
 enum Stop {
     Off(usize),
@@ -327,6 +328,7 @@ impl Reader<'_, '_> {
         ensures { Added 0 (inner (number_of kind) (self.old.count - from + 1)) self.old self.new }
     {
         let size = self.count - from + 1;
+        // It fits, as a text has at most 4,096 bytes.
         self.push(inner(kind, size as u16));
     }
 
@@ -359,7 +361,7 @@ fn leaf(low: u8, high: u8) -> Node
     ensures { result ≡ leaf_node (record { tag = 0; low = low; high = high }) 0 }
 {
     Node {
-        kind: NodeKind::Leaf as u8,
+        kind: u8::from(NodeKind::Leaf),
         low: u32::from(low),
         high: u32::from(high),
         ..BLANK

@@ -45,7 +45,7 @@ impl Sheet {
 }
 
 impl ClosedSheet {
-    // The lanes that are clean, taken and struck.
+    // The lanes that are clean, taken and struck, handed over together, as the rules say.
     pub fn print(self) -> (LaneSet, LaneSet, LaneSet)
         ensures { (result.0 ≡ self.clean) × (result.1 ≡ self.taken) × (result.2 ≡ self.struck) }
     {

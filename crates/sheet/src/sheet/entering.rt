@@ -92,7 +92,7 @@ fn judge_lane(lane: u8) -> Result<Lane, SheetFault>
     ensures { Judged lane (lane_refusal lane) result }
 {
     match Lane::new(lane) {
-        Some(at) if 1 <= lane && lane <= 10 => Ok(at),
+        Some(at) if (1..=10).contains(&lane) => Ok(at),
         _ => Err(SheetFault::BadLane(lane)),
     }
 }

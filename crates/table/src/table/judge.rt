@@ -19,7 +19,10 @@ impl Table {
     {
         let mut nodes = ArrayVec::new();
         nodes.push(BLANK);
-        Table { nodes, kind: 1 }
+        Table {
+            nodes,
+            kind: <u8 as Symbol>::kind(),
+        }
     }
 
     // Judges a list for a kind of symbol: fills the table with it, or says what is wrong first and leaves the table
@@ -57,7 +60,7 @@ impl Table {
     }
 }
 
-// The whole list, with what its answer means.
+// The whole list, with what its answer means, which is shown once here and not at each exit of the steps.
 fn judge_list<S: Symbol>(nodes: &[Node]) -> Result<(), TableFault>
     ensures answer { answered result ≡ verdict S.Symbol.admitted nodes.now }
     ensures means { (answered result ≡ None → Writes S.Symbol.admitted nodes.now) × (Writes S.Symbol.admitted nodes.now → answered result ≡ None) }
@@ -117,9 +120,7 @@ fn judge_node<S: Symbol>(nodes: &[Node], at: usize) -> Result<(), TableFault>
     ensures { answered result ≡ node_refusal at (wrong S.Symbol.admitted nodes.now at) }
 {
     let node = nodes[at];
-    let Ok(kind) = NodeKind::try_from(node.kind) else {
-        return Err(TableFault::BadNode(at));
-    };
+    let kind = NodeKind::try_from(node.kind).map_err(|_| TableFault::BadNode(at))?;
     let bare = node.tag == 0 && node.low == 0 && node.high == 0 && node.price == 0;
     if kind != NodeKind::Leaf && !bare {
         return Err(TableFault::BadNode(at));
