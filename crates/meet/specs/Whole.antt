@@ -10,7 +10,7 @@ use Rattle.text.specs.Grammar.{tree}
 use Rattle.text.specs.Reads.{Answers}
 use Rattle.text.specs.Tables.{Tabled}
 use Rattle.text.specs.declared.fault.TextFault.{TextFault}
-use Rattle.meet.specs.declared.patterns.Tables.{Tables}
+use Rattle.meet.specs.declared.tables.Tables.{Tables}
 use Rattle.meet.specs.Meet.{rows}
 use Rattle.meet.specs.Rows.{fault_row}
 

@@ -5,6 +5,7 @@ mod desk;
 mod listing;
 mod parsing;
 mod patterns;
+mod tables;
 mod whole;
 mod writing;
 

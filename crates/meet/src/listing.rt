@@ -6,23 +6,21 @@ ghost use Rattle.meet.specs.Parts.{lane_of};
 ghost use Rattle.meet.specs.Settled.{answer_row};
 ghost use Rattle.sheet.specs.Calls.{filled};
 ghost use Rattle.sheet.specs.Lanes.{NoneOf};
-ghost use Rattle.table.specs.Content.{content, tree};
-ghost use Rattle.table.specs.Kinds.{byte_number};
+ghost use Rattle.table.specs.Content.{tree};
 
 use crate::desk::Desk;
 use crate::parsing::laned;
+use crate::tables::Tables;
 use crate::writing::{fault_row, row};
 use lines::Lines;
 use sheet::SheetFault;
 use std::alloc::{AllocError, Global};
-use table::Table;
 
-// The rows of all lines, entered by a byte table on one sheet, which is closed and printed at the end.
-pub(crate) fn rows_by(heap: Global, table: &Table, results: &[u8]) -> Result<Vec<u8>, AllocError>
-    requires { (content table.now).kind ≡ byte_number }
-    ensures { IfOk result (λ v. v.items ≡ rows (tree table.now) [] (lines results.now)) }
+// The rows of all lines, entered by the line pattern on one sheet, which is closed and printed at the end.
+pub(crate) fn rows_by(heap: Global, tables: &Tables, results: &[u8]) -> Result<Vec<u8>, AllocError>
+    ensures { IfOk result (λ v. v.items ≡ rows (tree tables.now.line) [] (lines results.now)) }
 {
-    let mut desk = Desk::open(table);
+    let mut desk = Desk::open(&tables.line);
     let rows = desk.rows(heap, results);
     desk.close();
     rows

@@ -2,15 +2,8 @@
 ghost use Rattle.std.specs.Prelude.{◌≡◌};
 ghost use Rattle.meet.specs.Whole.{TablesBy, pattern_text};
 
-use table::Table;
+use crate::tables::Tables;
 use text::{TextFault, table_of};
-
-// Both patterns, checked.
-#[derive(Drop)]
-pub(crate) struct Tables {
-    pub(crate) line: Table,
-    pub(crate) club: Table,
-}
 
 // The tables of the line pattern and the club pattern, the file's first two lines. The line pattern is judged first.
 pub(crate) fn tables_of(patterns: &[u8]) -> Result<Tables, TextFault>

@@ -14,7 +14,7 @@ pub fn rows(heap: Global, patterns: &[u8], results: &[u8]) -> Result<Vec<u8>, Al
     ensures { IfOk result (λ v. Written patterns.now results.now v.items) }
 {
     match tables_of(patterns) {
-        Ok(tables) => rows_by(heap, &tables.line, results),
+        Ok(tables) => rows_by(heap, &tables, results),
         Err(fault) => Ok(pattern_fault(heap, fault)?.into_bytes()),
     }
 }
