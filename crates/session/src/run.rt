@@ -54,9 +54,10 @@ pub fn run_both<A: Scale, B: Scale, S: Symbol>(
 {
     judge_weights(table, here)?;
     judge_weights(table, there)?;
-    // Both lists are judged, so neither run is refused.
+    // Both lists are judged, so neither run is refused; past each `?` the proof has what the run says.
     run_turns(table, here, first)?;
-    run_turns(table, there, second)
+    run_turns(table, there, second)?;
+    Ok(())
 }
 
 // One turn after another.
