@@ -1,27 +1,39 @@
 -- What is owed on a sheet after an entry, and by another slip. Assumes nothing.
-use Rattle.std.proofs.Common.{◌≡◌, ℕ, Bool, true, false, cond, not, ◌&&◌, eqb, List, Ok, sym, refl, ap, ◌∙◌}
+use Rattle.std.proofs.Common.{◌≡◌, ℕ, Bool, true, false, cond, not, ◌&&◌, eqb, List, Ok, Err, Result, IsOk, IsErr, sym, refl, ap, ◌∙◌}
 use Rattle.table.specs.declared.table.Table.{Table}
 use Rattle.sheet.specs.declared.entry.Entry.{Entry}
 use Rattle.sheet.specs.declared.entry.Entry.TheVariants as entries
+use Rattle.sheet.specs.declared.sheet.ClosedSheet.{ClosedSheet}
 use Rattle.sheet.specs.declared.sheet.Sheet.{Sheet}
+use Rattle.sheet.specs.declared.sheet.StillOpen.{StillOpen}
+use Rattle.sheet.specs.declared.slip.Returned.{Returned}
 use Rattle.sheet.specs.declared.slip.Slip.{Slip}
 use Rattle.sheet.specs.declared.standing.Standing.{Standing}
 use Rattle.sheet.specs.declared.standing.Standing.TheVariants.{Unfilled, Clean, Owed, Taken, Struck}
 use Rattle.sheet.specs.Account.{gives}
-use Rattle.sheet.specs.Calls.{Entered, Moved, filled, matches}
-use Rattle.sheet.specs.Closes.{is_owed}
+use Rattle.sheet.specs.Calls.{Entered, Moved, Ruled, filled, matches}
+use Rattle.sheet.specs.Closes.{Closes, is_owed}
 use Rattle.sheet.specs.Entries.{outcome, placed}
 use Rattle.sheet.specs.Lanes.{NoneOf}
 use Rattle.sheet.specs.Sheets.{standing}
 use Rattle.sheet.specs.Standings.{same}
 use Rattle.sheet.specs.Weighing.{line_weight}
-use Rattle.std.proofs.lemmas.Bool.{eqb-true}
+use Rattle.std.proofs.lemmas.Bool.{and_right, both_ways, eqb-true}
 use Rattle.sheet.proofs.Accepts.{accepted}
 use Rattle.sheet.proofs.Answered.{placed_owed, gives_more, slip_due}
 
 -- the slip matches, and its lane alone is owed
 abbrev pub Owes : Sheet → Slip → Type 0
 Owes s p = (matches s p ≡ true) × ((k : ℕ) → is_owed s k ≡ eqb k p.lane)
+
+-- a sheet is not closed while a slip matches it, and the slip is not refused
+pub still_open : (s : Sheet) (p : Slip) → matches s p ≡ true → (r : Result ClosedSheet StillOpen) → Closes s r → IsErr r
+still_open s p fits (Ok c) closes = absurd (both_ways _ (and_right _ _ (closes.0 p.lane)) fits)
+still_open s p fits (Err o) closes = refl
+
+pub struck_by : (s t : Sheet) (p : Slip) → matches s p ≡ true → (r : Result (Unit {0}) Returned) → Ruled Struck p r s t → IsOk r
+struck_by s t p fits (Ok u) d = refl
+struck_by s t p fits (Err r) d = absurd (both_ways _ d.0 fits)
 
 -- so it is by another slip of that number and lane
 pub other_slip : (s : Sheet) (p q : Slip) → q.sheet ≡ p.sheet → q.lane ≡ p.lane → matches s p ≡ true → ((k : ℕ) → is_owed s k ≡ eqb k p.lane) → Owes s q

@@ -2,7 +2,7 @@
 use crate::outcome::Outcome;
 use std::alloc::Global;
 use std::io;
-use table::{BLANK, Node, NodeKind, Symbol, Table};
+use table::{BLANK, Node, NodeKind, Symbol, Table, Touch};
 
 // The nodes that the cases are made of: a leaf for one byte or one touch, and a node of each kind with operands, of the
 // size that it has after single nodes.
@@ -455,22 +455,24 @@ const OF_TOUCHES: [Case; 16] = [
 ];
 
 pub fn run(rt: &HostRuntime, heap: Global) -> io::Result<()> {
-    for case in OF_BYTES {
-        let name = case.name;
-        let outcome = judged::<u8>(case.nodes);
-        println!(rt; "bytes, {name} -> {outcome}")?;
-    }
-    for case in OF_TOUCHES {
-        let name = case.name;
-        let outcome = judged::<table::Touch>(case.nodes);
-        println!(rt; "touches, {name} -> {outcome}")?;
-    }
+    judge_all::<u8>(rt, "bytes", &OF_BYTES)?;
+    judge_all::<Touch>(rt, "touches", &OF_TOUCHES)?;
     for count in MANY {
         let nodes = vec![in heap; BLANK; count]?;
         let outcome = judged::<u8>(nodes.as_slice());
         println!(rt; "bytes, {count} empty nodes -> {outcome}")?;
     }
     refused_twice(rt)
+}
+
+// What the judge answers on each case.
+fn judge_all<S: Symbol>(rt: &HostRuntime, kind: &str, cases: &[Case]) -> io::Result<()> {
+    for case in cases {
+        let name = case.name;
+        let outcome = judged::<S>(case.nodes);
+        println!(rt; "{kind}, {name} -> {outcome}")?;
+    }
+    Ok(())
 }
 
 // What the judge answers on a new table.
@@ -480,14 +482,14 @@ fn judged<S: Symbol>(nodes: &[Node]) -> Outcome {
 
 fn outcome<S: Symbol>(table: &mut Table, nodes: &[Node]) -> Outcome {
     let judged = table.judge::<S>(nodes);
-    Outcome::of(judged.map(|()| table.nodes().len()))
+    Outcome::from(judged.map(|()| table.nodes().len()))
 }
 
 // A table that holds a list keeps it, and its kind, through refusals; an accepted list takes its place.
 fn refused_twice(rt: &HostRuntime) -> io::Result<()> {
     let mut table = Table::new();
     show(rt, "a new table", &table)?;
-    let first = outcome::<table::Touch>(&mut table, &[LONE, LONE, THEN_OF_2]);
+    let first = outcome::<Touch>(&mut table, &[LONE, LONE, THEN_OF_2]);
     println!(rt; "touches, then -> {first}")?;
     show(rt, "the table then", &table)?;
     let second = outcome::<u8>(&mut table, &[LONE, LONE]);

@@ -44,7 +44,7 @@ pub fn run(rt: &HostRuntime, heap: Global) -> io::Result<()> {
 // text's own untouched where it is accepted.
 fn answer(heap: Global, text: &[u8], lent: usize) -> Result<String, AllocError> {
     let mut nodes = vec![in heap; MARK; lent]?;
-    let outcome = Outcome::of(text::read(text, nodes.as_mut_slice()));
+    let outcome = Outcome::from(text::read(text, nodes.as_mut_slice()));
     match outcome.0 {
         Ok(count) => {
             let kept = yes_or_no(all_are(nodes.as_slice(), count, MARK));

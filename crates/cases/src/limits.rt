@@ -1,6 +1,6 @@
 // What sessions do with symbols of another kind, with a list that is too short or too long, and when they are full.
 use crate::outcome::Refused;
-use crate::replies::{Weighed, told};
+use crate::replies::{Weight, told};
 use crate::sessions::{
     PADS, PADS_OR_ANY, byte_table, lent, needed, succession, table_of, turns_of,
 };
@@ -23,22 +23,6 @@ const STRAY: Touch = Touch {
     gap: 30_000,
 };
 
-const OF_A: [Ask<u8>; 5] = [
-    Ask::Weigh,
-    Ask::Read(b'a'),
-    Ask::Weigh,
-    Ask::Restart,
-    Ask::Weigh,
-];
-
-const OF_PAD: [Ask<Touch>; 5] = [
-    Ask::Weigh,
-    Ask::Read(PAD),
-    Ask::Weigh,
-    Ask::Restart,
-    Ask::Weigh,
-];
-
 // What a full session is asked: to the end, and until it is made new and after.
 const KEPT_FULL: [Ask<Touch>; 2] = [Ask::Read(PAD), Ask::Weigh];
 
@@ -55,9 +39,9 @@ const MADE_NEW: [Ask<Touch>; 7] = [
 pub fn run(rt: &HostRuntime, heap: Global) -> io::Result<()> {
     let bytes = byte_table(b"(a|a)*");
     let pads = table_of::<Touch>(PADS.nodes);
-    let touched = succession::<Count, Touch>(heap, &bytes, &OF_PAD)?;
+    let touched = succession::<Count, Touch>(heap, &bytes, &around(PAD))?;
     println!(rt; "touches on a byte table -> {touched}")?;
-    let spelled = succession::<Count, u8>(heap, &pads, &OF_A)?;
+    let spelled = succession::<Count, u8>(heap, &pads, &around(b'a'))?;
     println!(rt; "bytes on a touch table -> {spelled}")?;
     let both = both(heap, &bytes, needed(&bytes))?;
     println!(rt; "count and yes over one table -> {both}")?;
@@ -68,6 +52,17 @@ pub fn run(rt: &HostRuntime, heap: Global) -> io::Result<()> {
     println!(rt; "65535 touches and more -> {more}")?;
     let kept = full::<Price>(heap, &pads, &KEPT_FULL)?;
     println!(rt; "65535 touches, no restart -> {kept}")
+}
+
+// What is asked around one symbol.
+fn around<S: Copy>(symbol: S) -> [Ask<S>; 5] {
+    [
+        Ask::Weigh,
+        Ask::Read(symbol),
+        Ask::Weigh,
+        Ask::Restart,
+        Ask::Weigh,
+    ]
 }
 
 // Lists of 11, 12 and 14 weights for a table that needs 12.
@@ -99,7 +94,7 @@ fn answer(heap: Global, res: Result<(), SessionFault>) -> Result<String, AllocEr
 // The answer, and the turns and the list as they then are.
 fn turned(heap: Global, table: &Table, room: usize) -> Result<String, AllocError> {
     let mut weights = lent(heap, Price { value: 42 }, room)?;
-    let mut turns = turns_of::<Price, u8>(heap, &OF_A)?;
+    let mut turns = turns_of::<Price, u8>(heap, &around(b'a'))?;
     let answer = answer(
         heap,
         run_turns(table, weights.as_mut_slice(), turns.as_mut_slice()),
@@ -120,10 +115,10 @@ fn marked(heap: Global, table: &Table, room: usize) -> Result<String, AllocError
     format!(in heap; "{answer};{list}")
 }
 
-fn listed<W: Weighed>(heap: Global, weights: &[W]) -> Result<String, AllocError> {
+fn listed<W: Copy + Into<Weight>>(heap: Global, weights: &[W]) -> Result<String, AllocError> {
     let mut text = String::new(heap);
     for weight in weights {
-        let weight = weight.weight();
+        let weight: Weight = (*weight).into();
         write!(text, " {weight}")?;
     }
     Ok(text)
@@ -133,8 +128,8 @@ fn listed<W: Weighed>(heap: Global, weights: &[W]) -> Result<String, AllocError>
 fn both(heap: Global, table: &Table, room: usize) -> Result<String, AllocError> {
     let mut here = lent(heap, Count::unit(), needed(table))?;
     let mut there = lent(heap, bool::unit(), room)?;
-    let mut first = turns_of::<Count, u8>(heap, &OF_A)?;
-    let mut second = turns_of::<bool, u8>(heap, &OF_A)?;
+    let mut first = turns_of::<Count, u8>(heap, &around(b'a'))?;
+    let mut second = turns_of::<bool, u8>(heap, &around(b'a'))?;
     let result = run_both(
         table,
         here.as_mut_slice(),
@@ -149,7 +144,7 @@ fn both(heap: Global, table: &Table, room: usize) -> Result<String, AllocError> 
 }
 
 // Asks a session one thing after another, and tells what it answered.
-fn asked<'t, 'w, W: Scale + Weighed>(
+fn asked<'t, 'w, W: Scale + Into<Weight>>(
     heap: Global,
     session: &mut Session<'t, 'w, W, Touch>,
     asks: &[Ask<Touch>],
@@ -174,7 +169,7 @@ fn short_session(heap: Global, table: &Table, symbol: Touch) -> Result<String, A
 }
 
 // A session that is full, and what it is asked then.
-fn full<W: Scale + Weighed>(
+fn full<W: Scale + Into<Weight>>(
     heap: Global,
     table: &Table,
     asks: &[Ask<Touch>],

@@ -6,8 +6,8 @@ use table::Refusal;
 #[derive(Clone, Copy)]
 pub struct Outcome(pub Result<usize, Refusal>);
 
-impl Outcome {
-    pub fn of<F: Into<Refusal>>(answer: Result<usize, F>) -> Outcome {
+impl<F: Into<Refusal>> From<Result<usize, F>> for Outcome {
+    fn from(answer: Result<usize, F>) -> Outcome {
         Outcome(answer.map_err(|fault| fault.into()))
     }
 }

@@ -105,23 +105,17 @@ impl Settled {
         let Settled { mut sheet } = self;
         match sheet.enter(lane, line, table, weights) {
             Err(fault) => After::Settled(Settled { sheet }, Answer(Err(fault.refusal()))),
-            Ok(entry) => match entry {
-                Entry::Unreadable => After::Settled(
-                    Settled { sheet },
-                    Answer(Ok(Reading::Unreadable)),
-                ),
-                Entry::Clean { price } => After::Settled(
-                    Settled { sheet },
-                    Answer(Ok(Reading::Clean(price))),
-                ),
-                Entry::Owed { price, slip } => {
-                    let note = note_of(&slip);
-                    After::Owing(
-                        Owing { sheet, slip },
-                        Answer(Ok(Reading::Owed { price, note })),
-                    )
-                }
-            },
+            Ok(Entry::Unreadable) => {
+                After::Settled(Settled { sheet }, Answer(Ok(Reading::Unreadable)))
+            }
+            Ok(Entry::Clean { price }) => {
+                After::Settled(Settled { sheet }, Answer(Ok(Reading::Clean(price))))
+            }
+            Ok(Entry::Owed { price, slip }) => {
+                let note = note_of(&slip);
+                let answer = Answer(Ok(Reading::Owed { price, note }));
+                After::Owing(Owing { sheet, slip }, answer)
+            }
         }
     }
 
@@ -168,14 +162,9 @@ impl Owing {
         ensures refused { result.0 ≡ sheet_refusal 23 self.slip.lane }
     {
         let Owing { sheet, slip } = self;
-        match sheet.close() {
-            // The slip's lane is owed.
-            Ok(_) => unreachable(),
-            Err(open) => {
-                let StillOpen { sheet, fault } = open;
-                (fault.refusal(), Owing { sheet, slip })
-            }
-        }
+        // The slip's lane is owed.
+        let StillOpen { sheet, fault } = sheet.close().unwrap_err();
+        (fault.refusal(), Owing { sheet, slip })
     }
 
     // Enters one more line, and closes the sheet too early. A second slip is then struck.
@@ -189,41 +178,26 @@ impl Owing {
         let Owing { mut sheet, slip } = self;
         match sheet.enter(lane, line, table, weights) {
             Err(fault) => same_twice(Owing { sheet, slip }, Answer(Err(fault.refusal()))),
-            Ok(entry) => match entry {
-                Entry::Unreadable => same_twice(
-                    Owing { sheet, slip },
-                    Answer(Ok(Reading::Unreadable)),
-                ),
-                Entry::Clean { price } => same_twice(
-                    Owing { sheet, slip },
-                    Answer(Ok(Reading::Clean(price))),
-                ),
+            Ok(Entry::Unreadable) => {
+                same_twice(Owing { sheet, slip }, Answer(Ok(Reading::Unreadable)))
+            }
+            Ok(Entry::Clean { price }) => {
+                same_twice(Owing { sheet, slip }, Answer(Ok(Reading::Clean(price))))
+            }
+            Ok(
                 Entry::Owed {
                     price,
                     slip: second,
-                } => {
-                    let note = note_of(&second);
-                    match sheet.close() {
-                        // Two lanes are owed.
-                        Ok(_) => unreachable(),
-                        Err(open) => {
-                            let StillOpen {
-                                sheet: mut still,
-                                fault,
-                            } = open;
-                            match still.strike(second) {
-                                Ok(()) => (
-                                    Owing { sheet: still, slip },
-                                    Answer(Ok(Reading::Owed { price, note })),
-                                    Answer(Err(fault.refusal())),
-                                ),
-                                // The slip matches.
-                                Err(_) => unreachable(),
-                            }
-                        }
-                    }
-                }
-            },
+                },
+            ) => {
+                let note = note_of(&second);
+                // Two lanes are owed.
+                let StillOpen { mut sheet, fault } = sheet.close().unwrap_err();
+                // The slip matches.
+                sheet.strike(second).unwrap();
+                let entered = Answer(Ok(Reading::Owed { price, note }));
+                (Owing { sheet, slip }, entered, Answer(Err(fault.refusal())))
+            }
         }
     }
 
@@ -238,15 +212,10 @@ impl Owing {
         let Settled {
             sheet: mut stranger,
         } = other;
-        match stranger.take(slip) {
-            // No lane is owed there.
-            Ok(()) => unreachable(),
-            Err(back) => {
-                let Returned { slip, fault } = back;
-                let stranger = Settled { sheet: stranger };
-                (fault.refusal(), Owing { sheet, slip }, stranger)
-            }
-        }
+        // No lane is owed there.
+        let Returned { slip, fault } = stranger.take(slip).unwrap_err();
+        let stranger = Settled { sheet: stranger };
+        (fault.refusal(), Owing { sheet, slip }, stranger)
     }
 
     // Two sheets with each other's slips, where number and lane agree.

@@ -30,32 +30,27 @@ impl fmt::Display for Weight {
     }
 }
 
-// A scale whose weights are printed.
-pub trait Weighed: Copy {
-    fn weight(self) -> Weight;
-}
-
-impl Weighed for bool {
-    fn weight(self) -> Weight {
-        Weight::Yes(self)
+impl From<bool> for Weight {
+    fn from(yes: bool) -> Weight {
+        Weight::Yes(yes)
     }
 }
 
-impl Weighed for Count {
-    fn weight(self) -> Weight {
-        Weight::Count(self.value)
+impl From<Count> for Weight {
+    fn from(count: Count) -> Weight {
+        Weight::Count(count.value)
     }
 }
 
-impl Weighed for Price {
-    fn weight(self) -> Weight {
-        Weight::Price(self.value)
+impl From<Price> for Weight {
+    fn from(price: Price) -> Weight {
+        Weight::Price(price.value)
     }
 }
 
-impl Weighed for Pair<Count, Price> {
-    fn weight(self) -> Weight {
-        Weight::Both(self.first.value, self.second.value)
+impl From<Pair<Count, Price>> for Weight {
+    fn from(both: Pair<Count, Price>) -> Weight {
+        Weight::Both(both.first.value, both.second.value)
     }
 }
 
@@ -82,20 +77,15 @@ impl fmt::Display for Sign {
     }
 }
 
-// A kind of symbol that is printed.
-pub trait Signed: Copy {
-    fn sign(self) -> Sign;
-}
-
-impl Signed for u8 {
-    fn sign(self) -> Sign {
-        Sign::Byte(self)
+impl From<u8> for Sign {
+    fn from(byte: u8) -> Sign {
+        Sign::Byte(byte)
     }
 }
 
-impl Signed for Touch {
-    fn sign(self) -> Sign {
-        Sign::Touch(self.source, self.gap)
+impl From<Touch> for Sign {
+    fn from(touch: Touch) -> Sign {
+        Sign::Touch(touch.source, touch.gap)
     }
 }
 
@@ -103,11 +93,11 @@ impl Signed for Touch {
 #[derive(Clone, Copy)]
 struct Asked<S>(Ask<S>);
 
-impl<S: Signed> fmt::Display for Asked<S> {
+impl<S: Copy + Into<Sign>> fmt::Display for Asked<S> {
     fn fmt<W: fmt::Write>(&self, f: &mut fmt::Formatter<W>) -> fmt::Result {
         match self.0 {
             Ask::Read(symbol) => {
-                let sign = symbol.sign();
+                let sign: Sign = symbol.into();
                 write!(f, "read {sign}")
             }
             Ask::Weigh => f.write_str("weigh"),
@@ -120,12 +110,15 @@ impl<S: Signed> fmt::Display for Asked<S> {
 #[derive(Clone, Copy)]
 struct Answered<V>(Result<Reply<V>, SessionFault>);
 
-impl<V: Weighed> fmt::Display for Answered<V> {
+impl<V: Copy + Into<Weight>> fmt::Display for Answered<V> {
     fn fmt<W: fmt::Write>(&self, f: &mut fmt::Formatter<W>) -> fmt::Result {
         match self.0 {
             Ok(Reply::Took(1)) => f.write_str("1 test"),
             Ok(Reply::Took(tests)) => write!(f, "{tests} tests"),
-            Ok(Reply::Weighs(weight)) => weight.weight().fmt(f),
+            Ok(Reply::Weighs(weight)) => {
+                let weight: Weight = weight.into();
+                weight.fmt(f)
+            }
             Ok(Reply::Restarted) => f.write_str("done"),
             Err(fault) => Refused(fault.refusal()).fmt(f),
         }
@@ -133,7 +126,7 @@ impl<V: Weighed> fmt::Display for Answered<V> {
 }
 
 // `read a: 2 tests, weigh: 1, restart: done`.
-pub fn told<W: Weighed, S: Signed>(
+pub fn told<W: Copy + Into<Weight>, S: Copy + Into<Sign>>(
     heap: Global,
     turns: &[Turn<W, S>],
 ) -> Result<String, AllocError> {

@@ -1,7 +1,7 @@
 // Cases of sessions: successions of read, weigh and restart, at both kinds of symbol and at all four scales.
 use crate::judged::{Case, EITHER_OF_2, REPEAT_OF_1};
 use crate::outcome::Refused;
-use crate::replies::{Signed, Weighed, told};
+use crate::replies::{Sign, Weight, told};
 use scale::{Count, Pair, Price, Scale};
 use session::{Ask, Reply, Turn, WEIGHTS_PER_NODE, run_turns};
 use std::alloc::{AllocError, Global};
@@ -178,7 +178,7 @@ pub fn table_of<S: Symbol>(nodes: &[Node]) -> Table {
 }
 
 // The same succession at each scale.
-fn at_all_scales<S: Symbol + Signed>(
+fn at_all_scales<S: Symbol + Into<Sign>>(
     rt: &HostRuntime,
     heap: Global,
     name: &str,
@@ -186,16 +186,16 @@ fn at_all_scales<S: Symbol + Signed>(
     asks: &[Ask<S>],
 ) -> io::Result<()> {
     let yes = succession::<bool, S>(heap, table, asks)?;
-    println!(rt; "{name}, yes -> {yes}")?;
     let count = succession::<Count, S>(heap, table, asks)?;
-    println!(rt; "{name}, count -> {count}")?;
     let price = succession::<Price, S>(heap, table, asks)?;
-    println!(rt; "{name}, price -> {price}")?;
     let both = succession::<Pair<Count, Price>, S>(heap, table, asks)?;
+    println!(rt; "{name}, yes -> {yes}")?;
+    println!(rt; "{name}, count -> {count}")?;
+    println!(rt; "{name}, price -> {price}")?;
     println!(rt; "{name}, count and price -> {both}")
 }
 
-pub fn succession<W: Scale + Weighed, S: Symbol + Signed>(
+pub fn succession<W: Scale + Into<Weight>, S: Symbol + Into<Sign>>(
     heap: Global,
     table: &Table,
     asks: &[Ask<S>],
@@ -215,11 +215,7 @@ pub fn needed(table: &Table) -> usize {
 
 // A list of weights to be lent, all the same.
 pub fn lent<W: Scale>(heap: Global, weight: W, room: usize) -> Result<Vec<W>, AllocError> {
-    let mut weights = Vec::new(heap);
-    for _ in 0..room {
-        weights.push(weight)?;
-    }
-    Ok(weights)
+    Ok(vec![in heap; weight; room]?)
 }
 
 // Turns that have no answer yet, which stands as 99 tests.

@@ -142,7 +142,12 @@ fn heat(table: &Table, weights: &mut [Pair<Count, Price>]) -> ([Answer; 9], Lane
 fn shown_heat(heap: Global, table: &Table) -> Result<String, AllocError> {
     let mut weights = lent(heap, weight(), 12)?;
     let (answers, lanes) = heat(table, weights.as_mut_slice());
-    let answers = told(heap, &answers)?;
+    told_and_shown(heap, &answers, lanes)
+}
+
+// What a sheet answered, and its lanes in the end.
+fn told_and_shown(heap: Global, answers: &[Answer], lanes: Lanes) -> Result<String, AllocError> {
+    let answers = told(heap, answers)?;
     let lanes = shown(heap, lanes)?;
     format!(in heap; "{answers}{lanes}")
 }
@@ -254,7 +259,5 @@ fn early(table: &Table, weights: &mut [Pair<Count, Price>]) -> ([Answer; 9], Lan
 fn shown_early(heap: Global, table: &Table) -> Result<String, AllocError> {
     let mut weights = lent(heap, weight(), 12)?;
     let (answers, lanes) = early(table, weights.as_mut_slice());
-    let answers = told(heap, &answers)?;
-    let lanes = shown(heap, lanes)?;
-    format!(in heap; "{answers}{lanes}")
+    told_and_shown(heap, &answers, lanes)
 }

@@ -64,7 +64,7 @@ pub fn run(rt: &HostRuntime, heap: Global) -> io::Result<()> {
 // What the reader answers where as many nodes are lent as a table holds.
 fn outcome(text: &[u8]) -> Outcome {
     let mut nodes = [BLANK; MOST_NODES];
-    Outcome::of(text::read(text, &mut nodes))
+    Outcome::from(text::read(text, &mut nodes))
 }
 
 // The text of which those are the parts.
