@@ -50,7 +50,7 @@ impl fmt::Display for Symbol {
     fn fmt<W: fmt::Write>(&self, f: &mut fmt::Formatter<W>) -> fmt::Result {
         let byte = self.0;
         if is_printable(byte) {
-            let c = byte as u8 as char;
+            let c = char::from(byte as u8);
             write!(f, "'{c}'")
         } else {
             write!(f, "{byte}")

@@ -152,7 +152,8 @@ pub(crate) fn root_kind(nodes: &[Node]) -> NodeKind
     NodeKind::try_from(nodes[nodes.len() - 1].kind).unwrap()
 }
 
-// The nodes of a root's two operands. The right one's root stands just before the root.
+// The nodes of a root's two operands. The right one's root stands just before the root. The marks are cut where they are
+// shifted, in two lines: a function that hands out three parts of a lent list would say more than it saves.
 pub(crate) fn operands(nodes: &[Node]) -> (&[Node], &[Node])
     requires whole { postfix (tree_of nodes.now) ≡ nodes.now }
     requires two { Binary (tree_of nodes.now) }

@@ -25,6 +25,7 @@ impl Lane {
     pub(crate) fn new(number: u8) -> Option<Lane>
         ensures { SomeIff result (number < 16) number }
     {
+        // Not by `then_some`, which would make a lane that is none before it lets it go.
         if number < 16 {
             Some(Lane { number })
         } else {

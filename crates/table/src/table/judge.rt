@@ -121,7 +121,12 @@ fn judge_node<S: Symbol>(nodes: &[Node], at: usize) -> Result<(), TableFault>
 {
     let node = nodes[at];
     let kind = NodeKind::try_from(node.kind).map_err(|_| TableFault::BadNode(at))?;
-    let bare = node.tag == 0 && node.low == 0 && node.high == 0 && node.price == 0;
+    let bare = node
+        == Node {
+            kind: node.kind,
+            size: node.size,
+            ..Node::default()
+        };
     if kind != NodeKind::Leaf && !bare {
         return Err(TableFault::BadNode(at));
     }
@@ -151,7 +156,7 @@ fn due_size(nodes: &[Node], at: usize, kind: NodeKind) -> Option<usize>
     }
 }
 
-// The size of the node that ends just before a place.
+// The size of the node that ends just before a place. Of `last` of the nodes before it the check does not find this.
 fn size_before(nodes: &[Node], end: usize) -> Option<usize>
     requires { end ≤ length nodes.now }
     ensures { MatchOption result (end ≡ 0) (λ s. (0 < end) × (s ≡ size_at nodes.now (end - 1)) × (s < 2 ^ 16)) }
