@@ -87,7 +87,7 @@ fn judged(heap: Global, table: &Table, room: usize) -> Result<String, AllocError
 fn answer(heap: Global, res: Result<(), SessionFault>) -> Result<String, AllocError> {
     match res {
         Ok(()) => String::from_str(heap, "done"),
-        Err(fault) => Refused(fault.refusal()).to_string(heap),
+        Err(fault) => Refused(fault.into()).to_string(heap),
     }
 }
 

@@ -72,7 +72,7 @@ pub fn note_of(slip: &Slip) -> Note
     }
 }
 
-// A sheet after a line was entered.
+// A sheet after a line was entered. Neither case is a failure, so it is no `Result`.
 pub enum After {
     Settled(Settled, Answer),
     Owing(Owing, Answer),
@@ -84,6 +84,34 @@ pub struct Lanes {
     pub clean: LaneSet,
     pub taken: LaneSet,
     pub struck: LaneSet,
+}
+
+// `clean 1, taken 2 3, struck none`.
+impl fmt::Display for Lanes {
+    fn fmt<W: fmt::Write>(&self, f: &mut fmt::Formatter<W>) -> fmt::Result {
+        let (clean, taken, struck) = (Listed(self.clean), Listed(self.taken), Listed(self.struck));
+        write!(f, "clean {clean}, taken {taken}, struck {struck}")
+    }
+}
+
+// The lanes of a set, or `none`.
+#[derive(Clone, Copy)]
+struct Listed(LaneSet);
+
+impl fmt::Display for Listed {
+    fn fmt<W: fmt::Write>(&self, f: &mut fmt::Formatter<W>) -> fmt::Result {
+        let mut mark = "";
+        for lane in 0..=u8::MAX {
+            if self.0.has(lane) {
+                write!(f, "{mark}{lane}")?;
+                mark = " ";
+            }
+        }
+        if mark.is_empty() {
+            f.write_str("none")?;
+        }
+        Ok(())
+    }
 }
 
 impl Settled {

@@ -204,7 +204,7 @@ pub fn succession<W: Scale + Into<Weight>, S: Symbol + Into<Sign>>(
     let mut turns = turns_of::<W, S>(heap, asks)?;
     match run_turns(table, weights.as_mut_slice(), turns.as_mut_slice()) {
         Ok(()) => told(heap, turns.as_slice()),
-        Err(fault) => Refused(fault.refusal()).to_string(heap),
+        Err(fault) => Refused(fault.into()).to_string(heap),
     }
 }
 

@@ -3,7 +3,6 @@ use crate::owing::{After, Answer, Lanes, Note, note_of};
 use crate::sessions::{ONE_OR_MANY, PADS, byte_table, lent, table_of};
 use crate::settled::{Owing, Settled};
 use scale::{Count, Pair, Price, Scale};
-use sheet::LaneSet;
 use std::alloc::{AllocError, Global};
 use std::io;
 use table::{Table, Touch};
@@ -83,7 +82,7 @@ fn alone(
         weights.as_mut_slice(),
         Owing::strike,
     );
-    let lanes = shown(heap, sheet.close())?;
+    let lanes = sheet.close();
     format!(in heap; "{answer}; {lanes}")
 }
 
@@ -102,27 +101,6 @@ fn ruled<R: FnOnce(Owing) -> Settled>(
         After::Settled(sheet, answer) => (sheet, answer),
         After::Owing(owing, answer) => (rule(owing), answer),
     }
-}
-
-// The clean, taken and struck lanes.
-fn shown(heap: Global, lanes: Lanes) -> Result<String, AllocError> {
-    let clean = listed(heap, lanes.clean)?;
-    let taken = listed(heap, lanes.taken)?;
-    let struck = listed(heap, lanes.struck)?;
-    format!(in heap; "clean{clean}, taken{taken}, struck{struck}")
-}
-
-fn listed(heap: Global, lanes: LaneSet) -> Result<String, AllocError> {
-    let mut text = String::new(heap);
-    for lane in 0..=u8::MAX {
-        if lanes.has(lane) {
-            write!(text, " {lane}")?;
-        }
-    }
-    if text.is_empty() {
-        text.push_str(" none")?;
-    }
-    Ok(text)
 }
 
 // Several lines on one sheet: a lane whose line has a reading takes no other.
@@ -148,7 +126,6 @@ fn shown_heat(heap: Global, table: &Table) -> Result<String, AllocError> {
 // What a sheet answered, and its lanes in the end.
 fn told_and_shown(heap: Global, answers: &[Answer], lanes: Lanes) -> Result<String, AllocError> {
     let answers = told(heap, answers)?;
-    let lanes = shown(heap, lanes)?;
     format!(in heap; "{answers}{lanes}")
 }
 
@@ -184,8 +161,6 @@ fn shown_strange(heap: Global, table: &Table, number: u32) -> Result<String, All
     let mut weights = lent(heap, weight(), 12)?;
     let (answers, own, other) = strange(table, number, weights.as_mut_slice());
     let answers = told(heap, &answers)?;
-    let own = shown(heap, own)?;
-    let other = shown(heap, other)?;
     format!(in heap; "{answers}own: {own}; other: {other}")
 }
 
@@ -232,8 +207,7 @@ fn shown_exchange(heap: Global, table: &Table, twos: &Table) -> Result<String, A
         None => String::from_str(heap, "no slips"),
         Some(both) => {
             let (a, b) = (both.note, both.other_note);
-            let first = shown(heap, both.lanes)?;
-            let second = shown(heap, both.other_lanes)?;
+            let (first, second) = (both.lanes, both.other_lanes);
             format!(in heap; "{a}; {first}; {b}; {second}")
         }
     }
