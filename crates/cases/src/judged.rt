@@ -5,7 +5,7 @@ use std::io;
 use table::{BLANK, Node, NodeKind, Symbol, Table, Touch};
 
 // The nodes that the cases are made of: a leaf for one byte or one touch, and a node of each kind with operands, of the
-// size that it has after single nodes.
+// size that it has after single nodes. A constant cannot call `From` for a node's kind.
 const LONE: Node = Node {
     kind: NodeKind::Leaf as u8,
     low: 97,

@@ -164,6 +164,7 @@ impl Settled {
     }
 }
 
+// To take and to strike are two calls here, as they are of a sheet.
 impl Owing {
     pub fn take(self) -> Settled
         ensures { Moved self.slip.lane Taken self.sheet result.sheet }

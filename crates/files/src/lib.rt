@@ -29,6 +29,7 @@ pub fn first_bytes<R: Read + Drop>(heap: Global, reader: R) -> io::Result<Vec<u8
     ensures few { IfOk result (λ bytes. vec_len bytes ≤ MOST_READ) }
 {
     let mut bytes = Vec::new(heap);
+    // `usize` has no `From` to `u64`.
     reader.take(MOST_READ as u64).read_to_end(&mut bytes)?;
     // No more were read; a reader of which nothing is known does not promise that.
     bytes.truncate(MOST_READ);

@@ -50,6 +50,7 @@ impl fmt::Display for Symbol {
     fn fmt<W: fmt::Write>(&self, f: &mut fmt::Formatter<W>) -> fmt::Result {
         let byte = self.0;
         if is_printable(byte) {
+            // A printable byte fits in 8 bits.
             let c = char::from(byte as u8);
             write!(f, "'{c}'")
         } else {

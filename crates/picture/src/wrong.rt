@@ -18,6 +18,7 @@ impl fmt::Display for Refused<'_> {
     ghost output = { λ r. Some (refused_lines r.text.now r.fault) };
 
     fn fmt<W: fmt::Write>(&self, f: &mut fmt::Formatter<W>) -> fmt::Result {
+        // The three numbers are named here, which the `Display` of a refusal does not do.
         let refusal = self.fault.refusal();
         let (number, place, layer) = (refusal.number, refusal.place, refusal.layer);
         let shown = Shown(self.text);

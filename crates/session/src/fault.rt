@@ -36,7 +36,7 @@ impl From<SessionFault> for Refusal {
 }
 
 impl SessionFault {
-    // The fault as it is written down.
+    // The fault's number, place and layer: the call by name, which the docs name, of what `From` gives.
     pub fn refusal(self) -> Refusal
         ensures { result ≡ refusal_of self }
     {

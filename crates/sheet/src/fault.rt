@@ -23,7 +23,7 @@ pub enum SheetFault {
 }
 
 impl SheetFault {
-    // The fault's number, place and layer.
+    // The fault's number, place and layer: the call by name, which the docs name, of what `From` gives.
     pub fn refusal(self) -> Refusal
         ensures { result ≡ refusal_of self }
     {

@@ -58,7 +58,7 @@ impl From<TableFault> for Refusal {
 }
 
 impl TableFault {
-    // The fault's number, place and layer.
+    // The fault's number, place and layer: the call by name, which the docs name, of what `From` gives.
     pub fn refusal(self) -> Refusal
         ensures { result ≡ refusal_of self }
     {

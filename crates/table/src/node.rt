@@ -42,7 +42,7 @@ impl From<NodeKind> for u8 {
     }
 }
 
-// A node of a pattern in postfix order: its operands stand before it, and `size` counts it and their nodes.
+// A node of a pattern, which by the rules is a list in postfix order: its operands stand before it, and `size` counts it and their nodes.
 // `tag`, `low`, `high` and `price` belong to leaves, and are 0 in every other node.
 // A list comes from outside and may hold a kind that is unknown, so `kind` is a number. What a tag means is for the kind
 // of symbol to say, and further kinds may come, so it is a number too.
@@ -56,7 +56,7 @@ pub struct Node {
     pub price: u32,
 }
 
-// The empty pattern's only node.
+// The empty pattern's only node. A constant cannot call `From` for its kind.
 pub const BLANK: Node = Node {
     kind: NodeKind::Empty as u8,
     tag: 0,
@@ -66,7 +66,7 @@ pub const BLANK: Node = Node {
     price: 0,
 };
 
-// Which symbols a leaf lets pass: a tag as in the list, and two bounds. The price is no part of it, so that no such answer can depend on the price.
+// Which symbols a leaf lets pass: a tag, which is a number as in the list, and two bounds. The price is no part of it, so that no such answer can depend on the price.
 #[derive(Clone, Copy, PartialEq, Eq, Debug)]
 pub struct Leaf {
     pub tag: u8,

@@ -20,7 +20,7 @@ pub enum TextFault {
 }
 
 impl TextFault {
-    // The fault's number, place and layer.
+    // The fault's number, place and layer: the call by name, which the docs name, of what `From` gives.
     pub fn refusal(self) -> Refusal
         ensures { result ≡ refusal_of self }
     {

@@ -1,7 +1,7 @@
 // The weights of the scale count.
 ghost use Rattle.std.specs.Prelude.{◌^◌, ◌<◌};
 
-// A number of readings. The greatest value means that many or more.
+// A number of readings. It has another width than a price, and so another bound in its laws. The greatest value means that many or more.
 #[derive(Clone, Copy, PartialEq, Eq, PartialOrd, Ord, Debug)]
 pub struct Count {
     pub value: u32,

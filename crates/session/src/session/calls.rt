@@ -73,7 +73,7 @@ impl<'t, 'w, W: Scale, S: Symbol> Session<'t, 'w, W, S> {
         ensures unchanged { OnErr result (self.new ≡ self.old) }
         ensures right { (w : List S) → Holds W.Scale.ops S.Symbol.passing self.old w → Right W.Scale.ops S.Symbol.passing S.Symbol.number S.Symbol.allowed self.old.table.now w ask result × Holds W.Scale.ops S.Symbol.passing self.new (held_next w ask result) }
     {
-        // `?` and not `map(Reply::Took)`: a call of `map` gets no proof where the constructor's type has a parameter.
+        // What is asked is data, so a `match` goes by it. `?` and not `map(Reply::Took)`: a call of `map` gets no proof where the constructor's type has a parameter.
         match ask {
             Ask::Read(symbol) => Ok(Reply::Took(self.read(symbol)?)),
             Ask::Weigh => Ok(Reply::Weighs(self.weigh()?)),

@@ -43,7 +43,7 @@ impl Table {
         Ok(())
     }
 
-    // The number of the kind of symbol that the table was judged for.
+    // The number of the kind of symbol that the table was judged for, as the trait `Symbol` has it.
     pub fn kind(&self) -> u8
         ensures { result ≡ (content self.now).kind }
     {
