@@ -1,3 +1,4 @@
 pub mod Blanks
+pub mod Glyphs
 pub mod Reports
 pub mod Trees

@@ -2,8 +2,11 @@
 ghost use Rattle.std.specs.Prelude.{◌≡◌, ◌<◌, map, Some};
 ghost use Rattle.picture.specs.Words.{printable, shown_byte, symbol, leaf_words, node_words};
 
-use std::fmt;
+use std::{fmt, str};
 use table::{Leaf, Node, NodeKind};
+
+// How many bytes of a text are written at a time. A write for each byte took three times as many instructions.
+const RUN: usize = 64;
 
 // Whether a byte is printable ASCII, the blank among it.
 fn is_printable(byte: u32) -> bool
@@ -12,15 +15,24 @@ fn is_printable(byte: u32) -> bool
     (32..=126).contains(&byte)
 }
 
-// The character that stands for a byte of a text: itself where it is printable, else `?`.
-fn glyph(byte: u8) -> char
+// The byte that stands for a byte of a text: itself where it is printable, else `?`.
+fn glyph(byte: u8) -> u8
     ensures value { result ≡ shown_byte byte }
     ensures ascii { result < 128 }
 {
     if is_printable(u32::from(byte)) {
-        char::from(byte)
+        byte
     } else {
-        '?'
+        b'?'
+    }
+}
+
+// Turns each byte of a text into the one that stands for it.
+fn to_glyphs(bytes: &mut [u8])
+    ensures { bytes.new ≡ map shown_byte bytes.old }
+{
+    for byte in bytes.iter_mut() {
+        *byte = glyph(*byte);
     }
 }
 
@@ -33,8 +45,13 @@ impl fmt::Display for Shown<'_> {
 
     fn fmt<W: fmt::Write>(&self, f: &mut fmt::Formatter<W>) -> fmt::Result {
         let bytes = self.0;
-        for byte in bytes {
-            f.write_char(glyph(*byte))?;
+        let mut room = [0u8; RUN];
+        for run in bytes.chunks(RUN) {
+            let glyphs = &mut room[..run.len()];
+            glyphs.copy_from_slice(run);
+            to_glyphs(glyphs);
+            // Glyphs are ASCII.
+            f.write_str(str::from_utf8(glyphs).unwrap())?;
         }
         Ok(())
     }
