@@ -1,5 +1,5 @@
 -- A session's step over a lent list: room, the front of the list, and the root's weight. Assumes nothing.
-use Rattle.std.proofs.Common.{◌≡◌, ℕ, ◌-◌, ◌*◌, ◌≤◌, Bool, cond, leb, List, [], ◌∷◌, ◌++◌, reverse, length, take, drop, Some, None, Option, refl, sym, ap, ◌∙◌, subst, arith, length-take}
+use Rattle.std.proofs.Common.{◌≡◌, ℕ, ◌-◌, ◌*◌, ◌≤◌, Bool, cond, leb, List, [], ◌∷◌, ◌++◌, reverse, length, take, drop, Some, None, Option, nat_eq, false, refl, sym, ap, ◌∙◌, subst, arith, length-take}
 use Rattle.std.proofs.lemmas.Bool.Decides.{nat_tests}
 use Rattle.scale.specs.Semiring.{Ops, Semiring}
 use Rattle.table.specs.declared.node.Leaf.{Leaf}
@@ -58,3 +58,9 @@ module _ {W S : Type 0} (o : Ops W) (laws : Semiring o) (passing : Leaf → S �
   pub later_weight : (held : ℕ) → (held ≡ 0 → ⊥) → (w : List S) → Front o passing t held ws w → l ≡ weight o passing t w
   later_weight held some [] front = absurd (some (sym front.0))
   later_weight held some (s ∷ w) front = (root_was (s ∷ w) held front).1 ∙ root_after o laws passing t s w (reverse (s ∷ w)) refl
+
+  pub held_weight : (held : ℕ) (w : List S) → Front o passing t held ws w → cond (nat_eq held 0) e l ≡ weight o passing t w
+  held_weight held [] front = let none : held ≡ 0 = sym front.0 in rw none (new_weight held none [] front)
+  held_weight held (s ∷ w) front =
+      let some : nat_eq held 0 ≡ false = let long = front.0 in grind (arith, nat_tests) in
+      rw some (later_weight held (λ none. let long = front.0 in absurd (omega arith)) (s ∷ w) front)

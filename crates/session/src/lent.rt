@@ -1,6 +1,6 @@
 // One session's step over its lent list of weights. A session's methods hand the list to functions, as the marks of a
 // whole word do, which have no session.
-ghost use Rattle.std.specs.Prelude.{◌≡◌, List, length, IfOk, if◌then◌else◌, Some, None, MatchResult, nat_le};
+ghost use Rattle.std.specs.Prelude.{◌≡◌, List, length, IfOk, if◌then◌else◌, Some, None, MatchResult, nat_eq, nat_le};
 ghost use Rattle.std.specs.Result.{result_err};
 ghost use Rattle.readings.specs.Weights.{weight};
 ghost use Rattle.session.specs.Sessions.{Front, Next, read_fault, room_fault, symbol_fault};
@@ -9,7 +9,7 @@ ghost use Rattle.session.specs.declared.fault.SessionFault.TheVariants.{ShortLis
 ghost use Rattle.table.specs.Content.{tree};
 
 use crate::fault::{MOST_SYMBOLS, SessionFault};
-use crate::marks::{WEIGHTS_PER_NODE, root};
+use crate::marks::{NodeWeights, WEIGHTS_PER_NODE, root};
 use crate::word::mark_symbol;
 use scale::Scale;
 use table::{Symbol, Table};
@@ -78,5 +78,12 @@ pub(crate) fn root_weight<W: Scale, S: Symbol>(
     let needed = needed_by(table);
     judge_room(needed, weights.len())?;
     let root = root(&weights[..needed]);
-    Ok(if held == 0 { root.empty } else { root.last })
+    Ok(latest(root, held))
+}
+
+// What a root weighs with so many symbols held.
+fn latest<W: Scale>(root: NodeWeights<W>, held: usize) -> W
+    ensures { result ≡ (if nat_eq held 0 then root.empty else root.last) }
+{
+    if held == 0 { root.empty } else { root.last }
 }

@@ -1,5 +1,4 @@
 // A session's type.
-use std::marker::PhantomData;
 use table::Table;
 
 mod calls;
@@ -12,6 +11,7 @@ pub struct Session<'t, 'w, W, S> {
     table: &'t Table,
     weights: &'w mut [W],
     held: usize,
-    // Of which kind the symbols are.
-    kind: PhantomData<S>,
+    // No symbol; it says of which kind they are. A loan and no `PhantomData<S>`, so that a session can be sent where its symbols
+    // can be shared; of a `PhantomData` of a loan `end` has no proof.
+    kind: &'t [S],
 }

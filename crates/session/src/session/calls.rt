@@ -13,7 +13,6 @@ use crate::session::Session;
 use crate::turn::{Ask, Reply};
 use crate::word::{mark_start, mark_word};
 use scale::Scale;
-use std::marker::PhantomData;
 use table::{Symbol, Table};
 
 impl<'t, 'w, W: Scale, S: Symbol> Session<'t, 'w, W, S> {
@@ -31,7 +30,7 @@ impl<'t, 'w, W: Scale, S: Symbol> Session<'t, 'w, W, S> {
             table,
             weights,
             held: 0,
-            kind: PhantomData,
+            kind: &[],
         }
     }
 

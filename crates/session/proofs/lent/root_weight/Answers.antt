@@ -1,7 +1,6 @@
 use Rattle.std.proofs.Common.{refl, ◌∙◌, arith, length-take}
-use Rattle.session.proofs.Lending.{later_weight, new_weight, room_there, room_then}
+use Rattle.session.proofs.Lending.{held_weight, room_there, room_then}
 use Rattle.session.proofs.lent.root_weight.Goals as goal
-use Rattle.session.proofs.lent.root_weight.Goals.{then-held-eq0, else-held-eq0}
 use Rattle.table.proofs.Postfix.{size_pos}
 use Rattle.table.specs.Content.{tree}
 
@@ -13,12 +12,8 @@ root-root-requires g c =
 pub returns : goal.returns
 returns g c =
     let t = tree c.args.table.now in
-    let root = c.root-root in
     record {
       refused = room_then _ _ _ _ c.needed_by-needed.ensures c.in_ok-judge_room.ensures (refl);
       value = λ word front.
-          elim c.if-held-eq0.branch [
-            | then-held-eq0 w ↦ w.result-is ∙ new_weight g.W.Scale.ops g.W.Scale.laws g.S.Symbol.passing t c.args.weights.now _ c.needed_by-needed.ensures _ _ _ root.ensures c.args.held w.if-held-eq0.true word front
-            | else-held-eq0 w ↦ w.result-is ∙ later_weight g.W.Scale.ops g.W.Scale.laws g.S.Symbol.passing t c.args.weights.now _ c.needed_by-needed.ensures _ _ _ root.ensures c.args.held w.if-held-eq0.false word front
-          ];
+          c.latest.ensures ∙ held_weight g.W.Scale.ops g.W.Scale.laws g.S.Symbol.passing t c.args.weights.now _ c.needed_by-needed.ensures _ _ _ c.root-root.ensures c.args.held word front;
     }
