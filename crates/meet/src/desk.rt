@@ -7,7 +7,7 @@ ghost use Rattle.sheet.specs.Lanes.{NoneOf};
 ghost use Rattle.table.specs.Content.{content};
 ghost use Rattle.table.specs.Kinds.{byte_number};
 
-use scale::{Count, Pair, Price, Scale};
+use scale::{Count, Pair, Price};
 use session::WEIGHTS_PER_NODE;
 use sheet::{Entry, Sheet, SheetFault};
 use table::{MOST_NODES, Table};
@@ -35,7 +35,11 @@ impl<'t> Desk<'t> {
         ensures table { result.table.now ≡ table.now }
         ensures unfilled { NoneOf (filled result.sheet) }
     {
-        let weight = Pair::<Count, Price>::unit();
+        // Any weights will do. Of zeros the list is made where it stays; of others it is made apart and copied.
+        let weight = Pair {
+            first: Count { value: 0 },
+            second: Price { value: 0 },
+        };
         Desk {
             table,
             weights: [weight; MOST_WEIGHTS],
