@@ -186,12 +186,12 @@ fn at_all_scales<S: Symbol + Into<Sign>>(
     asks: &[Ask<S>],
 ) -> io::Result<()> {
     let yes = succession::<bool, S>(heap, table, asks)?;
-    let count = succession::<Count, S>(heap, table, asks)?;
-    let price = succession::<Price, S>(heap, table, asks)?;
-    let both = succession::<Pair<Count, Price>, S>(heap, table, asks)?;
     println!(rt; "{name}, yes -> {yes}")?;
+    let count = succession::<Count, S>(heap, table, asks)?;
     println!(rt; "{name}, count -> {count}")?;
+    let price = succession::<Price, S>(heap, table, asks)?;
     println!(rt; "{name}, price -> {price}")?;
+    let both = succession::<Pair<Count, Price>, S>(heap, table, asks)?;
     println!(rt; "{name}, count and price -> {both}")
 }
 
