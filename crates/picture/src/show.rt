@@ -5,7 +5,8 @@ ghost use Rattle.picture.specs.Words.{printable, shown_byte, symbol, leaf_words,
 use std::{fmt, str};
 use table::{Leaf, Node, NodeKind};
 
-// How many bytes of a text are written at a time. A write for each byte took three times as many instructions.
+// How many bytes of a text are written at a time. A write for each byte took sixteen times as many instructions of a
+// report on 16,384 bytes.
 const RUN: usize = 64;
 
 // Whether a byte is printable ASCII, the blank among it.

@@ -17,6 +17,6 @@ pub on_cleared : (m lane k : ℕ) → m < 65_536 → 2 ^ lane < 65_536 → on (b
 on_cleared m lane k h few = grind (arith, nat_tests, bit_at_and, bit_at-lt, bit_at_not w16, bit_at-pow_same, bit_at-pow_other, bit_at_above m 16 k h)
 
 -- the first lane below 16 that a set has is its least, and without one it is empty
-pub first_has : (s : LaneSet) → s.mask < 65_536 → (r : Option ℕ) → MatchOption r ((k : ℕ) → 0 ≤ k → k < 16 → has s k ≡ false) (λ l. (0 ≤ l) × (l < 16) × (has s l ≡ true) × ((k : ℕ) → 0 ≤ k → k < l → has s k ≡ false)) → MatchOption r (NoneOf (has s)) (Least (has s))
+pub first_has : (s : LaneSet) → s.mask < 65_536 → (r : Option ℕ) → MatchOption r ((k : ℕ) → 0 ≤ k → k < 16 → has s k ≡ false) (λ l. (0 ≤ l) × (l < 16) × (l < 16 → has s l ≡ true) × ((k : ℕ) → 0 ≤ k → k < l → has s k ≡ false)) → MatchOption r (NoneOf (has s)) (Least (has s))
 first_has s h None none = λ k. ⊎_elim (λ lt. none k (omega arith) lt) (λ ge. on_above s.mask k h ge) (cases_lt k 16)
-first_has s h (Some l) found = record { picks = found.2; first = λ k lt. found.3 k (omega arith) lt }
+first_has s h (Some l) found = record { picks = found.2 found.1; first = λ k lt. found.3 k (omega arith) lt }
